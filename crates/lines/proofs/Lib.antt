@@ -1,0 +1,4 @@
+pub mod Runs
+pub mod Texts
+pub mod Steps
+pub mod Readings
