@@ -1,0 +1,4 @@
+pub mod Judging
+pub mod Keeping
+pub mod Answering
+pub mod Examples
