@@ -5,11 +5,9 @@ use Prim.Native.Nat.{ℕ, zero, suc, _+_, _*_, _^_, _≤_, _<_}
 use native.Mathlib.Omega.{arith}
 use lib.ListN.{length, take, getD}
 use Rattle.std.proofs.shelf.Lists.{length-push, getD-append-left, getD-push}
-use Rattle.std.specs.declared.option.Option.{Option}
 use Rattle.std.specs.declared.option.Option.the-variants.{Some, None}
 use Rattle.adders.specs.declared.wiring.Adder.{Adder}
-use Rattle.adders.specs.declared.wiring.Operand.{Operand}
-use Rattle.adders.specs.Values.{Slots, operand-value, combined, adder-value, slot-value, values-from, sample, value, Values-follow}
+use Rattle.adders.specs.Values.{Slots, operand-value, combined, adder-value, slot-value, values-from, sample, Values-follow}
 
 -- adders leave the values before them as they are
 pub values-early : (vs : List ℕ) (xs : Slots) (i : ℕ) → i < length vs → getD (values-from vs xs) i 0 ≡ getD vs i 0

@@ -1,10 +1,8 @@
 -- The rules, tried in their order, against what each adder has to keep.
 use mathlib.Core.Path.{_≡_, refl, sym, ap, subst, _∙_}
-use mathlib.Core.Bool.{Bool, true, false, cond, _&&_}
 use mathlib.Core.List.{List, [], _∷_, _++_}
 use Prim.Native.Nat.{ℕ, zero, suc, _+_, _*_, _^_, _≤_, _<_}
 use native.Mathlib.Omega.{arith}
-use lib.Dec.{leb, ltb}
 use lib.ListN.{length, take, getD}
 use Rattle.std.proofs.shelf.Lists.{length-take-le}
 use Rattle.std.proofs.shelf.Ways.{tells}
@@ -13,8 +11,8 @@ use Rattle.std.specs.declared.option.Option.the-variants.{Some, None}
 use Rattle.adders.specs.declared.wiring.Adder.{Adder}
 use Rattle.adders.specs.declared.wiring.Operand.{Operand}
 use Rattle.adders.specs.Values.{Slots, operand-value, adder-value, slot-value, values-from, sample, value}
-use Rattle.adders.specs.Rules.{Rule, first-broken, in-range, InRange, operand-rules, adder-rules, slot-rules, rules-from, SoundOperand, SoundAdder, Sound, Rules-say}
-use Rattle.adders.proofs.Follow.{values-early, values-prefix, value-at, length-values, within}
+use Rattle.adders.specs.Rules.{first-broken, InRange, adder-rules, slot-rules, rules-from, SoundOperand, SoundAdder, Rules-say}
+use Rattle.adders.proofs.Follow.{values-prefix, value-at, length-values, within}
 use Rattle.adders.proofs.Broken.{whole-parts, whole-from}
 
 -- what the rules of one adder say of the values before it

@@ -51,9 +51,16 @@ value xs source = getD (values-from sample xs) source 0
 abbrev pub reads : ℕ → Adder → Bool
 reads source a = eqb (a .left .source) source || eqb (a .right .source) source
 
--- a chain uses each of its adders
+-- a chain uses each of its adders: none of its slots is empty
 abbrev pub wired : List Adder → Slots
 wired = map Some
+
+-- what a slot holds that no adder is in, where slots are plain adders
+abbrev pub spare-operand : Operand
+spare-operand = record { source = 0; shift = 0 }
+
+abbrev pub spare-adder : Adder
+spare-adder = record { left = spare-operand; sign = Plus; right = spare-operand }
 
 -- What the values above come to: the sample is 1, and adder j + 1, with sources below it, is what its sign makes of its two sources under their shifts.
 pub record Values-follow : Type 0 where

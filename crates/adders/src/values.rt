@@ -1,11 +1,10 @@
 // The values of operands and adders for a sample of 1, with the rules that they keep.
 ghost use mathlib.Core.Path.{_≡_};
-ghost use Prim.Native.Nat.{ℕ, _*_, _^_, _≤_, _<_};
-ghost use Rattle.std.specs.Results.{Cases};
-ghost use Rattle.std.specs.declared.option.Option.the-variants.{Some, None};
-ghost use Rattle.adders.specs.declared.refusals.Refusal.the-variants.{ShiftOutOfRange};
+ghost use mathlib.Core.List.{[], _∷_};
+ghost use Prim.Native.Nat.{_*_, _^_, _<_};
+ghost use Rattle.std.specs.Vec.{made};
 ghost use Rattle.adders.specs.Values.{operand-value, adder-value, reads, Values-follow};
-ghost use Rattle.adders.specs.Rules.{first-broken, in-range, operand-rules, adder-rules, output-rules, Rules-say};
+ghost use Rattle.adders.specs.Rules.{Tried, in-range, shift-rule, operand-rules, adder-rules, output-rules, Rules-say};
 use crate::refusals::Refusal;
 use crate::wiring::Adder;
 use crate::wiring::Operand;
@@ -24,7 +23,8 @@ fn in_range(value: u64) -> bool
 
 // A value under a left shift, or the refusal of the shift at `place`.
 fn shifted(value: u32, shift: u8, place: usize) -> Result<u64, Refusal>
-    ensures { λ r. ⌜ Cases r (λ v. (shift ≤ 30) × (v ≡ value * 2 ^ shift) × (v < 2 ^ 62)) (λ e. (30 < shift) × (e ≡ ShiftOutOfRange place)) ⌝ }
+    ensures tried { λ r. ⌜ Tried (shift-rule shift place ∷ []) (value * 2 ^ shift) r ⌝ }
+    ensures small { λ r. ⌜ made r (λ v. v < 2 ^ 62) ⌝ }
 {
     if shift > MOST_SHIFT {
         return Err(Refusal::ShiftOutOfRange(place));
@@ -34,7 +34,7 @@ fn shifted(value: u32, shift: u8, place: usize) -> Result<u64, Refusal>
 
 // The value of an output that reads `value`, or the first rule that it breaks.
 pub fn output_value(value: u32, shift: u8) -> Result<u32, Refusal>
-    ensures { λ r. ⌜ Cases r (λ v. (first-broken (output-rules value shift) ≡ None) × (v ≡ value * 2 ^ shift)) (λ e. first-broken (output-rules value shift) ≡ Some e) ⌝ }
+    ensures { λ r. ⌜ Tried (output-rules value shift) (value * 2 ^ shift) r ⌝ }
 {
     let output = shifted(value, shift, 0)?;
     if in_range(output) {
@@ -47,7 +47,8 @@ pub fn output_value(value: u32, shift: u8) -> Result<u32, Refusal>
 impl Operand {
     // The operand's value at the adder that reads it, or the first rule that it breaks; `values` has one for each source below that adder.
     fn value(self, values: &[u32]) -> Result<u64, Refusal>
-        ensures { λ r. ⌜ Cases r (λ v. (first-broken (operand-rules (now (values .entry)) self) ≡ None) × (v ≡ operand-value (now (values .entry)) self) × (v < 2 ^ 62)) (λ e. first-broken (operand-rules (now (values .entry)) self) ≡ Some e) ⌝ }
+        ensures tried { λ r. ⌜ Tried (operand-rules (now (values .entry)) self) (operand-value (now (values .entry)) self) r ⌝ }
+        ensures small { λ r. ⌜ made r (λ v. v < 2 ^ 62) ⌝ }
     {
         let source = self.source as usize;
         if source >= values.len() {
@@ -60,7 +61,7 @@ impl Operand {
 impl Adder {
     // The adder's value, or the first rule that it breaks; `values` has one for each source below it.
     pub fn value(self, values: &[u32]) -> Result<u32, Refusal>
-        ensures { λ r. ⌜ Cases r (λ v. (first-broken (adder-rules (now (values .entry)) self) ≡ None) × (v ≡ adder-value (now (values .entry)) self)) (λ e. first-broken (adder-rules (now (values .entry)) self) ≡ Some e) ⌝ }
+        ensures { λ r. ⌜ Tried (adder-rules (now (values .entry)) self) (adder-value (now (values .entry)) self) r ⌝ }
     {
         let left = self.left.value(values)?;
         let right = self.right.value(values)?;
@@ -84,15 +85,11 @@ impl Adder {
 }
 
 // The values are what the shift-and-add rule gives.
-pub fn values_follow_their_adders() -> u8
+pub fn values_follow_their_adders()
     ensures { λ _. ⌜ Values-follow ⌝ }
-{
-    0
-}
+{}
 
 // The rules of the adders, tried in their order, say what each adder has to keep.
-pub fn rules_say_what_adders_keep() -> u8
+pub fn rules_say_what_adders_keep()
     ensures { λ _. ⌜ Rules-say ⌝ }
-{
-    0
-}
+{}

@@ -20,3 +20,18 @@ pub struct Adder {
     pub sign: Sign,
     pub right: Operand,
 }
+
+impl Adder {
+    // What a slot holds that no adder is in.
+    pub const SPARE: Adder = Adder {
+        left: Operand {
+            source: 0,
+            shift: 0,
+        },
+        sign: Sign::Plus,
+        right: Operand {
+            source: 0,
+            shift: 0,
+        },
+    };
+}

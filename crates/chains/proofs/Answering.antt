@@ -1,7 +1,7 @@
 -- What reading or making a chain answers, and that it answers nothing else.
 use mathlib.Core.Path.{_≡_, refl, sym, ap, subst, subst₂, _∙_}
 use mathlib.Core.Logic.{⊎-elim}
-use mathlib.Core.Bool.{Bool, true, false, _&&_}
+use mathlib.Core.Bool.{false, _&&_}
 use mathlib.Core.List.{List, _++_}
 use Prim.Native.Nat.{ℕ, _+_, _-_, _≤_, _<_}
 use native.Mathlib.Omega.{arith}
@@ -12,7 +12,7 @@ use Rattle.std.specs.Orderings.{Decides}
 use Rattle.std.specs.Options.{isSome}
 use Rattle.std.specs.Results.{isOk}
 use Rattle.std.specs.Vec.{made}
-use Rattle.std.proofs.shelf.Lists.{getD-take, length-take-le, length-append, length-replicate, take-append-drop, take-all, take-at, drop-at}
+use Rattle.std.proofs.shelf.Lists.{getD-take, length-map, length-take-le, length-append, length-replicate, take-append-drop, take-all, take-at, drop-at}
 use Rattle.std.proofs.shelf.Tests.{cases-lt, cond-true, and-from, le-leb, false≢true}
 use Rattle.std.specs.declared.option.Option.{Option}
 use Rattle.std.specs.declared.option.Option.the-variants.{Some, None}
@@ -21,17 +21,18 @@ use Rattle.std.specs.declared.result.Result.the-variants.{Ok, Err}
 use Rattle.adders.specs.contracts.wiring.Adder as adder
 use Rattle.adders.specs.declared.wiring.Adder.{Adder}
 use Rattle.adders.specs.declared.refusals.Refusal.{Refusal}
-use Rattle.adders.specs.declared.refusals.Refusal.the-variants.{TooManyAdders, BrokenForm}
-use Rattle.adders.specs.Values.{sample, value, values-from, wired}
+use Rattle.adders.specs.declared.refusals.Refusal.the-variants.{BrokenForm}
+use Rattle.adders.specs.Values.{spare-adder, sample, value, values-from, wired}
 use Rattle.adders.specs.Rules.{first-broken}
 use Rattle.adders.proofs.Broken.{some-none}
-use Rattle.lines.specs.Form.{Line, line-text}
+use Rattle.adders.proofs.Follow.{within, follow}
+use Rattle.lines.specs.Form.{line-text}
 use Rattle.lines.proofs.Texts.{says-one}
 use Rattle.lines.proofs.Readings.{line-written, breaks-once}
 use Rattle.chains.specs.contracts.model.Chain.{struct, the-propositions}
 use Rattle.chains.specs.declared.model.Chain.{Chain}
-use Rattle.chains.specs.Rules.{chain-rules, spare-adder, Keeps}
-use Rattle.chains.specs.Chains.{chain-adders, adder-value-at, Judged, kept, broken, Reading, long, misshapen, judged, Accepted}
+use Rattle.chains.specs.Rules.{chain-rules, Keeps}
+use Rattle.chains.specs.Chains.{chain-adders, adder-value-at, Shift-and-add, Judged, kept, broken, Reading, long, misshapen, judged, Accepted}
 use Rattle.chains.proofs.Judging.{chain-crowded}
 use Rattle.chains.proofs.Keeping.{keeps-from, rules-from-keeps}
 
@@ -60,12 +61,28 @@ unbroken c = none-from _ (c .lawful)
 pub chain-keeps : (c : Chain) → Keeps (chain-adders c) (c .shift)
 chain-keeps c = keeps-from (chain-adders c) (c .shift) (unbroken c)
 
+-- an adder of the chain has a value
+value-there : (c : Chain) (j : ℕ) → 1 ≤ j → j ≤ c .len → adder-value-at c j ≡ Some (value (wired (chain-adders c)) j)
+value-there c j low high = cond-true (leb 1 j && leb j (c .len)) (Some (value (wired (chain-adders c)) j)) None (and-from (leb 1 j) (leb j (c .len)) (le-leb 1 j low) (le-leb j (c .len) high))
+
 -- the value of an adder, from the values at of all
 pub value-listed : (c : Chain) (xs : List Adder) (at : List ℕ) (j : ℕ) → xs ≡ chain-adders c → take (length xs + 1) at ≡ values-from sample (wired xs) → 1 ≤ j → j ≤ c .len → Some (getD at j 0) ≡ adder-value-at c j
 value-listed c xs at j e all low high =
     let n = len-is c ∙ ap length (sym e) in
-    ap Some (sym (getD-take (length xs + 1) at j 0 (omega arith)) ∙ ap (λ l. getD l j 0) all ∙ ap (λ ys. value (wired ys) j) e)
-    ∙ sym (cond-true (leb 1 j && leb j (c .len)) (Some (value (wired (chain-adders c)) j)) None (and-from (leb 1 j) (leb j (c .len)) (le-leb 1 j low) (le-leb j (c .len) high)))
+    ap Some (sym (getD-take (length xs + 1) at j 0 (omega arith)) ∙ ap (λ l. getD l j 0) all ∙ ap (λ ys. value (wired ys) j) e) ∙ sym (value-there c j low high)
+
+-- the clauses of `Chain::value`
+pub told-value : (c : Chain) (j : ℕ) (v : Option ℕ) → v ≡ adder-value-at c j → record { value : v ≡ adder-value-at c j; rule : Shift-and-add c j v }
+told-value c j v e = record {
+  value = e;
+  rule = λ k a up there.
+      let xs = chain-adders c in
+      let n = len-is c in
+      let m = length-map xs Some in
+      let inside = within (wired xs) k a there in
+      let s = chain-keeps c .adders k a there in
+      e ∙ value-there c j (omega arith) (omega arith) ∙ ap (λ i. Some (value (wired xs) i)) up ∙ ap Some (follow .adder-is (wired xs) k a there (omega (arith, s .left .lower)) (omega (arith, s .right .lower)));
+}
 
 -- the slots that a chain of the adders xs has
 module _ (xs slots : List Adder) (out : ℕ) (e : slots ≡ xs ++ replicate (8 - length xs) spare-adder) where

@@ -1,9 +1,8 @@
--- The worked lines: the automaton is run on each, and the rules are tried on what it read.
-use mathlib.Core.Path.{_≡_, refl, sym, ap, subst, _∙_}
+-- The worked lines: what each says is computed, and the rules are tried on it.
+use mathlib.Core.Path.{_≡_, refl, sym, subst}
 use mathlib.Core.Bool.{Bool, true, false, cond}
 use mathlib.Core.List.{List, [], _∷_, _++_, map}
 use Prim.Native.Nat.{ℕ, _-_, _≤_}
-use native.Mathlib.Omega.{arith}
 use lib.Dec.{leb}
 use lib.ListN.{length, replicate}
 use Rattle.std.specs.shelf.Lists.{All}
@@ -15,15 +14,13 @@ use Rattle.adders.specs.declared.refusals.Refusal.{Refusal}
 use Rattle.adders.specs.Refusals.{refusal-entry}
 use Rattle.adders.specs.Rules.{first-broken}
 use Rattle.adders.proofs.Broken.{some-none}
-use Rattle.lines.specs.declared.scan.Part.{Part}
 use Rattle.lines.specs.Form.{Line}
-use Rattle.lines.specs.Scan.{final}
-use Rattle.lines.proofs.Runs.{State, at, dead, run, start}
-use Rattle.lines.proofs.Texts.{said}
+use Rattle.lines.proofs.Computed.{says, says-right}
+use Rattle.adders.specs.Values.{spare-adder}
 use Rattle.chains.specs.declared.model.Chain.{Chain}
 use Rattle.chains.specs.Rules as rules
-use Rattle.chains.specs.Rules.{chain-rules, spare-adder}
-use Rattle.chains.specs.Chains.{chain-adders, kept, broken, judged}
+use Rattle.chains.specs.Rules.{chain-rules}
+use Rattle.chains.specs.Chains.{kept, broken, judged}
 use Rattle.chains.specs.Examples.{Answer, constant, fault, Case, Answers, valued, refused, Stands, worked}
 use Rattle.chains.proofs.Keeping.{keeps-from}
 use Rattle.chains.proofs.Answering.{slots-front, slots-spare, slots-room, slots-lawful}
@@ -48,38 +45,29 @@ abbrev answered : List Adder → ℕ → Option Refusal → Answer
 answered xs out None = constant (rules.constant xs out)
 answered xs out (Some r) = fault (refusal-entry r .number) (refusal-entry r .place)
 
-abbrev at-final : List Adder → Option ℕ → Option Answer
-at-final xs (Some out) = Some (answered xs out (first-broken (chain-rules xs out)))
-at-final xs None = None
-
-abbrev at-state : State → Option Answer
-at-state (at xs p) = at-final xs (final p)
-at-state dead = None
+abbrev by-form : Option (List Adder × ℕ) → Option Answer
+by-form (Some l) = Some (answered (l .0) (l .1) (first-broken (chain-rules (l .0) (l .1))))
+by-form None = None
 
 -- the answer, as far as it is computed here: that of a line of the form
 abbrev computed : List ℕ → Option Answer
-computed bs = cond (leb (length bs) 200) (at-state (run start bs)) None
+computed bs = cond (leb (length bs) 200) (by-form (says bs)) None
 
-module _ (bs : List ℕ) (short : length bs ≤ 200) where
-  by-rules : (xs : List Adder) (out : ℕ) → Line xs out bs → (o : Option Refusal) → first-broken (chain-rules xs out) ≡ o → Answers bs (answered xs out o)
-  by-rules xs out l None h =
-      let front = slots-front xs (xs ++ replicate (8 - length xs) spare-adder) out refl in
-      subst (λ ys. Answers bs (constant (rules.constant ys out))) front (valued {c = chain xs out h} (judged short l (kept h front refl)))
-  by-rules xs out l (Some r) h = refused (judged short l (broken h))
-
-  by-final : (xs : List Adder) (p : Part) (a : Answer) → run start bs ≡ at xs p → (v : Option ℕ) → final p ≡ v → at-final xs v ≡ Some a → Answers bs a
-  by-final xs p a e (Some out) f g = subst (Answers bs) (cc g) (by-rules xs out (said bs xs p out e f) (first-broken (chain-rules xs out)) refl)
-  by-final xs p a e None f g = absurd (some-none (sym g))
-
-  by-state : (a : Answer) (s : State) → run start bs ≡ s → at-state s ≡ Some a → Answers bs a
-  by-state a (at xs p) e g = by-final xs p a e (final p) refl g
-  by-state a dead e g = absurd (some-none (sym g))
+by-rules : (bs : List ℕ) → length bs ≤ 200 → (xs : List Adder) (out : ℕ) → Line xs out bs → (o : Option Refusal) → first-broken (chain-rules xs out) ≡ o → Answers bs (answered xs out o)
+by-rules bs short xs out l None h =
+    let front = slots-front xs (xs ++ replicate (8 - length xs) spare-adder) out refl in
+    subst (λ ys. Answers bs (constant (rules.constant ys out))) front (valued {c = chain xs out h} (judged short l (kept h front refl)))
+by-rules bs short xs out l (Some r) h = refused (judged short l (broken h))
 
 computed-right : (bs : List ℕ) (a : Answer) → computed bs ≡ Some a → Answers bs a
 computed-right bs a g = by-length (leb (length bs) 200) refl g
   where
-    by-length : (b : Bool) → leb (length bs) 200 ≡ b → cond b (at-state (run start bs)) None ≡ Some a → Answers bs a
-    by-length true e h = by-state bs (leb-true (length bs) 200 e) a (run start bs) refl h
+    by-what : length bs ≤ 200 → (o : Option (List Adder × ℕ)) → says bs ≡ o → by-form o ≡ Some a → Answers bs a
+    by-what short (Some l) e h = subst (Answers bs) (cc h) (by-rules bs short (l .0) (l .1) (says-right bs l e) (first-broken (chain-rules (l .0) (l .1))) refl)
+    by-what short None e h = absurd (some-none (sym h))
+
+    by-length : (b : Bool) → leb (length bs) 200 ≡ b → cond b (by-form (says bs)) None ≡ Some a → Answers bs a
+    by-length true e h = by-what (leb-true (length bs) 200 e) (says bs) refl h
     by-length false e h = absurd (some-none (sym h))
 
 -- the answers are computed over the whole collection at once

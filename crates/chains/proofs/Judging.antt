@@ -1,7 +1,7 @@
 -- The steps of the loops that test the rules.
 use mathlib.Core.Path.{_≡_, refl, sym, ap, _∙_}
 use mathlib.Core.Logic.{⊎-elim}
-use mathlib.Core.Bool.{Bool, true, false, cond, _||_}
+use mathlib.Core.Bool.{true, false, cond, _||_}
 use mathlib.Core.List.{List, [], _∷_, _++_}
 use Prim.Native.Nat.{ℕ, zero, suc, _+_, _-_, _≤_, _<_}
 use native.Mathlib.Omega.{arith}
@@ -12,10 +12,10 @@ use Rattle.std.specs.declared.option.Option.the-variants.{Some, None}
 use Rattle.adders.specs.declared.wiring.Adder.{Adder}
 use Rattle.adders.specs.declared.refusals.Refusal.{Refusal}
 use Rattle.adders.specs.declared.refusals.Refusal.the-variants.{TooManyAdders, AdderUnread}
-use Rattle.adders.specs.Values.{sample, value, adder-value, values-from, wired, reads}
+use Rattle.adders.specs.Values.{spare-adder, sample, value, adder-value, values-from, wired, reads}
 use Rattle.adders.specs.Rules.{first-broken, adder-rules, rules-from, output-rules}
 use Rattle.adders.proofs.Broken.{otherwise, broken-append}
-use Rattle.chains.specs.Rules.{some-reads, read-rules, unread, chain-rules, spare-adder}
+use Rattle.chains.specs.Rules.{some-reads, read-rules-from, read-rules, chain-rules}
 
 -- one adder more in its slot
 module _ (xs slots : List Adder) (i : ℕ) (d : Adder) (room : i < length slots) where
@@ -59,31 +59,31 @@ module _ (j : ℕ) (xs : List Adder) (i : ℕ) (d : Adder) (h : i < length xs) w
   reads-more e = at-drop-more (some-reads j) xs i d h ∙ ap (λ b. b || some-reads j (drop (i + 1) xs)) (sym e)
 
 -- adders j to j + n - 1 are all read, or k is the first of them that is not
-pub all-read : (xs : List Adder) (j n : ℕ) → ((k : ℕ) → j ≤ k → k < j + n → some-reads k (drop k xs) ≡ true) → first-broken (read-rules xs j n) ≡ None
+pub all-read : (xs : List Adder) (j n : ℕ) → ((k : ℕ) → j ≤ k → k < j + n → some-reads k (drop k xs) ≡ true) → first-broken (read-rules-from xs j n) ≡ None
 all-read xs j zero f = refl
-all-read xs j (suc n) f = ap (λ b. cond b (first-broken (read-rules xs (j + 1) n)) (Some (AdderUnread j))) (f j (omega arith) (omega arith)) ∙ all-read xs (j + 1) n (λ k a b. f k (omega arith) (omega arith))
+all-read xs j (suc n) f = ap (λ b. cond b (first-broken (read-rules-from xs (j + 1) n)) (Some (AdderUnread j))) (f j (omega arith) (omega arith)) ∙ all-read xs (j + 1) n (λ k a b. f k (omega arith) (omega arith))
 
-pub unread-first : (xs : List Adder) (j n k : ℕ) → j ≤ k → k < j + n → ((m : ℕ) → j ≤ m → m < k → some-reads m (drop m xs) ≡ true) → some-reads k (drop k xs) ≡ false → first-broken (read-rules xs j n) ≡ Some (AdderUnread k)
+pub unread-first : (xs : List Adder) (j n k : ℕ) → j ≤ k → k < j + n → ((m : ℕ) → j ≤ m → m < k → some-reads m (drop m xs) ≡ true) → some-reads k (drop k xs) ≡ false → first-broken (read-rules-from xs j n) ≡ Some (AdderUnread k)
 unread-first xs j zero k a b f e = absurd (omega arith)
 unread-first xs j (suc n) k a b f e =
     ⊎-elim
-    (λ same. ap (λ c. cond c (first-broken (read-rules xs (j + 1) n)) (Some (AdderUnread j))) (ap (λ m. some-reads m (drop m xs)) same ∙ e) ∙ ap (λ m. Some (AdderUnread m)) same)
+    (λ same. ap (λ c. cond c (first-broken (read-rules-from xs (j + 1) n)) (Some (AdderUnread j))) (ap (λ m. some-reads m (drop m xs)) same ∙ e) ∙ ap (λ m. Some (AdderUnread m)) same)
     (⊎-elim
-    (λ lt. ap (λ c. cond c (first-broken (read-rules xs (j + 1) n)) (Some (AdderUnread j))) (f j (omega arith) lt) ∙ unread-first xs (j + 1) n k (omega arith) (omega arith) (λ m p q. f m (omega arith) q) e)
+    (λ lt. ap (λ c. cond c (first-broken (read-rules-from xs (j + 1) n)) (Some (AdderUnread j))) (f j (omega arith) lt) ∙ unread-first xs (j + 1) n k (omega arith) (omega arith) (λ m p q. f m (omega arith) q) e)
     (λ gt. absurd (omega arith)))
     (cases-order j k)
 
 -- the rules of a chain of at most eight adders, part by part
 pub chain-broken : (xs : List Adder) (out : ℕ) → length xs ≤ 8
-    → first-broken (chain-rules xs out) ≡ otherwise (first-broken (rules-from sample (wired xs))) (otherwise (first-broken (output-rules (value (wired xs) (length xs)) out)) (first-broken (unread xs)))
+    → first-broken (chain-rules xs out) ≡ otherwise (first-broken (rules-from sample (wired xs))) (otherwise (first-broken (output-rules (value (wired xs) (length xs)) out)) (first-broken (read-rules xs)))
 chain-broken xs out few =
     let adders = rules-from sample (wired xs) in
     let output = output-rules (value (wired xs) (length xs)) out in
-    ap (λ b. cond b (first-broken (adders ++ (output ++ unread xs))) (Some TooManyAdders)) (le-leb (length xs) 8 few)
-    ∙ broken-append adders (output ++ unread xs) ∙ ap (otherwise (first-broken adders)) (broken-append output (unread xs))
+    ap (λ b. cond b (first-broken (adders ++ (output ++ read-rules xs))) (Some TooManyAdders)) (le-leb (length xs) 8 few)
+    ∙ broken-append adders (output ++ read-rules xs) ∙ ap (otherwise (first-broken adders)) (broken-append output (read-rules xs))
 
 pub chain-crowded : (xs : List Adder) (out : ℕ) → 8 < length xs → first-broken (chain-rules xs out) ≡ Some TooManyAdders
-chain-crowded xs out many = ap (λ b. cond b (first-broken (rules-from sample (wired xs) ++ (output-rules (value (wired xs) (length xs)) out ++ unread xs))) (Some TooManyAdders)) (lt-leb (length xs) 8 many)
+chain-crowded xs out many = ap (λ b. cond b (first-broken (rules-from sample (wired xs) ++ (output-rules (value (wired xs) (length xs)) out ++ read-rules xs))) (Some TooManyAdders)) (lt-leb (length xs) 8 many)
 
 -- the value of the last adder, from the values of all
 pub last-value : (xs : List Adder) (at : List ℕ) → take (length xs + 1) at ≡ values-from sample (wired xs) → getD at (length xs) 0 ≡ value (wired xs) (length xs)
@@ -92,17 +92,17 @@ last-value xs at e = sym (getD-take (length xs + 1) at (length xs) 0 (omega arit
 -- the same as it is met: in the adders, in the output over the values at of the adders, past both
 module _ (xs : List Adder) (out : ℕ) (few : length xs ≤ 8) where
   pub in-adders : (r : Refusal) → first-broken (rules-from sample (wired xs)) ≡ Some r → first-broken (chain-rules xs out) ≡ Some r
-  in-adders r e = chain-broken xs out few ∙ ap (λ o. otherwise o (otherwise (first-broken (output-rules (value (wired xs) (length xs)) out)) (first-broken (unread xs)))) e
+  in-adders r e = chain-broken xs out few ∙ ap (λ o. otherwise o (otherwise (first-broken (output-rules (value (wired xs) (length xs)) out)) (first-broken (read-rules xs)))) e
 
   module _ (at : List ℕ) (same : take (length xs + 1) at ≡ values-from sample (wired xs)) (sound : first-broken (rules-from sample (wired xs)) ≡ None) where
-    past-adders : first-broken (chain-rules xs out) ≡ otherwise (first-broken (output-rules (getD at (length xs) 0) out)) (first-broken (unread xs))
+    past-adders : first-broken (chain-rules xs out) ≡ otherwise (first-broken (output-rules (getD at (length xs) 0) out)) (first-broken (read-rules xs))
     past-adders =
         chain-broken xs out few
-        ∙ ap (λ o. otherwise o (otherwise (first-broken (output-rules (value (wired xs) (length xs)) out)) (first-broken (unread xs)))) sound
-        ∙ ap (λ v. otherwise (first-broken (output-rules v out)) (first-broken (unread xs))) (sym (last-value xs at same))
+        ∙ ap (λ o. otherwise o (otherwise (first-broken (output-rules (value (wired xs) (length xs)) out)) (first-broken (read-rules xs)))) sound
+        ∙ ap (λ v. otherwise (first-broken (output-rules v out)) (first-broken (read-rules xs))) (sym (last-value xs at same))
 
     pub in-output : (r : Refusal) → first-broken (output-rules (getD at (length xs) 0) out) ≡ Some r → first-broken (chain-rules xs out) ≡ Some r
-    in-output r e = past-adders ∙ ap (λ o. otherwise o (first-broken (unread xs))) e
+    in-output r e = past-adders ∙ ap (λ o. otherwise o (first-broken (read-rules xs))) e
 
-    pub past-output : first-broken (output-rules (getD at (length xs) 0) out) ≡ None → first-broken (chain-rules xs out) ≡ first-broken (unread xs)
-    past-output e = past-adders ∙ ap (λ o. otherwise o (first-broken (unread xs))) e
+    pub past-output : first-broken (output-rules (getD at (length xs) 0) out) ≡ None → first-broken (chain-rules xs out) ≡ first-broken (read-rules xs)
+    past-output e = past-adders ∙ ap (λ o. otherwise o (first-broken (read-rules xs))) e

@@ -1,7 +1,7 @@
 -- The rules of a chain, tried in their order, against what a chain has to keep.
 use mathlib.Core.Path.{_≡_, refl, sym, ap, _∙_}
 use mathlib.Core.Logic.{_⊎_, inl, inr, ⊎-elim}
-use mathlib.Core.Bool.{Bool, true, false, cond, _||_}
+use mathlib.Core.Bool.{Bool, true, false, cond}
 use mathlib.Core.List.{List, [], _∷_, _++_}
 use Prim.Native.Nat.{ℕ, zero, suc, _+_, _-_, _*_, _^_, _≤_, _<_}
 use native.Mathlib.Omega.{arith}
@@ -15,9 +15,9 @@ use Rattle.adders.specs.declared.wiring.Adder.{Adder}
 use Rattle.adders.specs.declared.refusals.Refusal.the-variants.{TooManyAdders, AdderUnread}
 use Rattle.adders.specs.Values.{sample, value, wired, reads}
 use Rattle.adders.specs.Rules.{Rule, rule, first-broken, rules-from, output-rules, InRange}
-use Rattle.adders.proofs.Broken.{otherwise, some-none, whole-parts, whole-from}
+use Rattle.adders.proofs.Broken.{some-none, whole-parts, whole-from}
 use Rattle.adders.proofs.Sounds as sounds
-use Rattle.chains.specs.Rules.{constant, some-reads, read-rules, unread, chain-rules, ReadLater, Keeps}
+use Rattle.chains.specs.Rules.{some-reads, read-rules-from, read-rules, chain-rules, ReadLater, Keeps}
 use Rattle.chains.proofs.Judging.{all-read}
 
 output-keeps : (v out : ℕ) → first-broken (output-rules v out) ≡ None → (out ≤ 30) × InRange (v * 2 ^ out)
@@ -80,11 +80,11 @@ later-read xs j r =
     reads-from (drop j xs) j (r .place - j) (r .reader) (later-place xs j (r .place - j) ∙ ap (λ n. getD (wired xs) n None) up ∙ r .there)
     (⊎-elim (λ e. or-left (eqb left j) (eqb right j) (eq-eqb left j e)) (λ e. or-right (eqb left j) (eqb right j) (eq-eqb right j e)) (r .reads-it))
 
-each-read : (xs : List Adder) (j n : ℕ) → first-broken (read-rules xs j n) ≡ None → (k : ℕ) → j ≤ k → k < j + n → some-reads k (drop k xs) ≡ true
+each-read : (xs : List Adder) (j n : ℕ) → first-broken (read-rules-from xs j n) ≡ None → (k : ℕ) → j ≤ k → k < j + n → some-reads k (drop k xs) ≡ true
 each-read xs j zero h k a b = absurd (omega arith)
 each-read xs j (suc n) h k a b =
     let first = rule (some-reads j (drop j xs)) (AdderUnread j) in
-    let parts = whole-parts (first ∷ []) (read-rules xs (j + 1) n) h in
+    let parts = whole-parts (first ∷ []) (read-rules-from xs (j + 1) n) h in
     ⊎-elim (λ e. ap (λ m. some-reads m (drop m xs)) (sym e) ∙ alone (some-reads j (drop j xs)) (parts .0))
     (⊎-elim (λ lt. each-read xs (j + 1) n (parts .1) k (omega arith) (omega arith)) (λ gt. absurd (omega arith)))
     (cases-order j k)
@@ -97,9 +97,9 @@ pub keeps-from : (xs : List Adder) (out : ℕ) → first-broken (chain-rules xs 
 keeps-from xs out h =
     let adders = rules-from sample (wired xs) in
     let output = output-rules (value (wired xs) (length xs)) out in
-    let p = whole-parts (crowded xs) (adders ++ (output ++ unread xs)) h in
-    let q = whole-parts adders (output ++ unread xs) (p .1) in
-    let r = whole-parts output (unread xs) (q .1) in
+    let p = whole-parts (crowded xs) (adders ++ (output ++ read-rules xs)) h in
+    let q = whole-parts adders (output ++ read-rules xs) (p .1) in
+    let r = whole-parts output (read-rules xs) (q .1) in
     let o = output-keeps (value (wired xs) (length xs)) out (r .0) in
     record {
       few = few-from xs (p .0);
@@ -113,7 +113,7 @@ pub rules-from-keeps : (xs : List Adder) (out : ℕ) → Keeps xs out → first-
 rules-from-keeps xs out k =
     let adders = rules-from sample (wired xs) in
     let output = output-rules (value (wired xs) (length xs)) out in
-    whole-from (crowded xs) (adders ++ (output ++ unread xs)) (few-rule xs (k .few))
-    (whole-from adders (output ++ unread xs) (sounds.say (wired xs) .1 (k .adders))
-    (whole-from output (unread xs) (output-from (value (wired xs) (length xs)) out (k .shift) (k .range))
+    whole-from (crowded xs) (adders ++ (output ++ read-rules xs)) (few-rule xs (k .few))
+    (whole-from adders (output ++ read-rules xs) (sounds.say (wired xs) .1 (k .adders))
+    (whole-from output (read-rules xs) (output-from (value (wired xs) (length xs)) out (k .shift) (k .range))
     (all-read xs 1 (length xs - 1) (λ j a b. later-read xs j (k .read j a (omega arith))))))

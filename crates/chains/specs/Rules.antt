@@ -4,14 +4,12 @@
 use Prim.Native.Nat.{ℕ, zero, suc, _+_, _-_, _*_, _^_, _≤_, _<_}
 use mathlib.Core.Path.{_≡_}
 use mathlib.Core.Logic.{_⊎_}
-use mathlib.Core.Bool.{Bool, true, false, _||_}
+use mathlib.Core.Bool.{Bool, false, _||_}
 use mathlib.Core.List.{List, [], _∷_, _++_}
 use lib.Dec.{leb}
 use lib.ListN.{length, drop, getD}
 use Rattle.std.specs.declared.option.Option.the-variants.{Some, None}
-use Rattle.adders.specs.declared.wiring.Operand.{Operand}
 use Rattle.adders.specs.declared.wiring.Adder.{Adder}
-use Rattle.adders.specs.declared.wiring.Sign.the-variants.{Plus}
 use Rattle.adders.specs.declared.refusals.Refusal.the-variants.{TooManyAdders, AdderUnread}
 use Rattle.adders.specs.Values.{sample, value, wired, reads}
 use Rattle.adders.specs.Rules.{Rule, rule, rules-from, output-rules, InRange, Sound}
@@ -25,16 +23,16 @@ some-reads source [] = false
 some-reads source (a ∷ xs) = reads source a || some-reads source xs
 
 -- each of n adders, from number j on, is read by a later one
-abbrev pub read-rules : List Adder → ℕ → ℕ → List Rule
-read-rules xs j zero = []
-read-rules xs j (suc n) = rule (some-reads j (drop j xs)) (AdderUnread j) ∷ read-rules xs (j + 1) n
+abbrev pub read-rules-from : List Adder → ℕ → ℕ → List Rule
+read-rules-from xs j zero = []
+read-rules-from xs j (suc n) = rule (some-reads j (drop j xs)) (AdderUnread j) ∷ read-rules-from xs (j + 1) n
 
 -- all adders but the last
-abbrev pub unread : List Adder → List Rule
-unread xs = read-rules xs 1 (length xs - 1)
+abbrev pub read-rules : List Adder → List Rule
+read-rules xs = read-rules-from xs 1 (length xs - 1)
 
 abbrev pub chain-rules : List Adder → ℕ → List Rule
-chain-rules xs out = rule (leb (length xs) 8) TooManyAdders ∷ (rules-from sample (wired xs) ++ (output-rules (value (wired xs) (length xs)) out ++ unread xs))
+chain-rules xs out = rule (leb (length xs) 8) TooManyAdders ∷ (rules-from sample (wired xs) ++ (output-rules (value (wired xs) (length xs)) out ++ read-rules xs))
 
 -- What the rules come to.
 
@@ -52,10 +50,3 @@ pub record Keeps (xs : List Adder) (out : ℕ) : Type 0 where
   pub shift : out ≤ 30
   pub range : InRange (constant xs out)
   pub read : (j : ℕ) → 1 ≤ j → j < length xs → ReadLater xs j
-
--- what a slot past the last adder holds
-abbrev pub spare-operand : Operand
-spare-operand = record { source = 0; shift = 0 }
-
-abbrev pub spare-adder : Adder
-spare-adder = record { left = spare-operand; sign = Plus; right = spare-operand }

@@ -5,7 +5,8 @@ ghost use Prim.Native.Nat.{_-_, _≤_};
 ghost use lib.ListN.{length, take, drop, replicate};
 ghost use Rattle.std.specs.Options.{isSome};
 ghost use Rattle.adders.specs.Rules.{first-broken};
-ghost use Rattle.chains.specs.Rules.{chain-rules, spare-adder};
+ghost use Rattle.adders.specs.Values.{spare-adder};
+ghost use Rattle.chains.specs.Rules.{chain-rules};
 use adders::Adder;
 
 pub mod calls;

@@ -1,39 +1,26 @@
 // The rules of a chain, tested in their order.
 ghost use mathlib.Core.Path.{_≡_};
 ghost use mathlib.Core.List.{_++_};
-ghost use Prim.Native.Nat.{ℕ, _+_, _-_, _≤_, _<_};
+ghost use Prim.Native.Nat.{_+_, _-_, _≤_, _<_};
 ghost use lib.ListN.{length, take, replicate};
 ghost use Rattle.std.specs.Results.{Cases};
 ghost use Rattle.std.specs.declared.option.Option.the-variants.{Some, None};
-ghost use Rattle.adders.specs.Values.{sample, values-from, wired};
-ghost use Rattle.adders.specs.Rules.{first-broken, rules-from};
-ghost use Rattle.chains.specs.Rules.{some-reads, unread, chain-rules, constant, spare-adder};
+ghost use Rattle.adders.specs.Values.{sample, values-from, wired, spare-adder};
+ghost use Rattle.adders.specs.Rules.{first-broken, Tried, rules-from};
+ghost use Rattle.chains.specs.Rules.{some-reads, read-rules, chain-rules, constant};
 use adders::Adder;
-use adders::Operand;
 use adders::Refusal;
-use adders::Sign;
 use adders::output_value;
 
 // The most adders that a chain has.
-pub const MOST_ADDERS: usize = 8;
-
-const SAMPLE: Operand = Operand {
-    source: 0,
-    shift: 0,
-};
-
-const SPARE: Adder = Adder {
-    left: SAMPLE,
-    sign: Sign::Plus,
-    right: SAMPLE,
-};
+const MOST_ADDERS: usize = 8;
 
 // The adders in the first slots of eight, the others spare.
-pub fn padded(adders: &[Adder]) -> [Adder; 8]
+pub(crate) fn padded(adders: &[Adder]) -> [Adder; 8]
     requires { ⌜ length (now adders) ≤ 8 ⌝ }
     ensures { λ r. ⌜ r ≡ now (adders .entry) ++ replicate (8 - length (now (adders .entry))) spare-adder ⌝ }
 {
-    let mut slots = [SPARE; 8];
+    let mut slots = [Adder::SPARE; 8];
     for (i, adder) in adders.iter().enumerate() {
         slots[i] = *adder;
     }
@@ -41,7 +28,7 @@ pub fn padded(adders: &[Adder]) -> [Adder; 8]
 }
 
 // The values of the sample and of the adders, or the first rule that an adder breaks.
-pub fn values_of(adders: &[Adder]) -> Result<[u32; 9], Refusal>
+pub(crate) fn values_of(adders: &[Adder]) -> Result<[u32; 9], Refusal>
     requires { ⌜ length (now adders) ≤ 8 ⌝ }
     ensures { λ r. ⌜ Cases r (λ at. (first-broken (rules-from sample (wired (now (adders .entry)))) ≡ None) × (take (length (now (adders .entry)) + 1) at ≡ values-from sample (wired (now (adders .entry)))) × (length at ≡ 9)) (λ e. first-broken (rules-from sample (wired (now (adders .entry)))) ≡ Some e) ⌝ }
 {
@@ -69,7 +56,7 @@ fn some_reads(adders: &[Adder], source: usize) -> bool
 
 // The lowest adder but the last that no later adder reads.
 fn first_unread(adders: &[Adder]) -> Option<Refusal>
-    ensures { λ r. ⌜ r ≡ first-broken (unread (now (adders .entry))) ⌝ }
+    ensures { λ r. ⌜ r ≡ first-broken (read-rules (now (adders .entry))) ⌝ }
 {
     for number in 1..adders.len() {
         if !some_reads(&adders[number..], number) {
@@ -80,8 +67,8 @@ fn first_unread(adders: &[Adder]) -> Option<Refusal>
 }
 
 // The constant of a chain of these adders, or the first rule that it breaks.
-pub fn constant_of(adders: &[Adder], shift: u8) -> Result<u32, Refusal>
-    ensures { λ r. ⌜ Cases r (λ v. (first-broken (chain-rules (now (adders .entry)) shift) ≡ None) × (v ≡ constant (now (adders .entry)) shift)) (λ e. first-broken (chain-rules (now (adders .entry)) shift) ≡ Some e) ⌝ }
+pub(crate) fn constant_of(adders: &[Adder], shift: u8) -> Result<u32, Refusal>
+    ensures { λ r. ⌜ Tried (chain-rules (now (adders .entry)) shift) (constant (now (adders .entry)) shift) r ⌝ }
 {
     if adders.len() > MOST_ADDERS {
         return Err(Refusal::TooManyAdders);

@@ -2,3 +2,4 @@ pub mod Runs
 pub mod Texts
 pub mod Steps
 pub mod Readings
+pub mod Computed

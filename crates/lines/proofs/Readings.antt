@@ -1,17 +1,17 @@
 -- A line is read in one way only.
 use mathlib.Core.Path.{_≡_, sym, ap, subst, _∙_}
 use mathlib.Core.Logic.{⊎-elim}
-use mathlib.Core.List.{List, _∷_, _++_, append-assoc}
+use mathlib.Core.List.{List, _++_, append-assoc}
 use Prim.Native.Nat.{ℕ, _+_, _*_, _/_, _%_, _≤_, _<_}
 use native.Mathlib.Omega.{arith}
-use lib.ListN.{length, take, drop}
+use lib.ListN.{take, drop}
 use Rattle.std.specs.Written.{decimal}
 use Rattle.std.proofs.shelf.Decimals.{decimal-digit, decimal-step}
 use Rattle.std.proofs.shelf.Lists.{take-append-drop, take-take}
 use Rattle.std.proofs.shelf.Tests.{cases-order}
 use Rattle.adders.specs.declared.wiring.Operand.{Operand}
 use Rattle.adders.specs.declared.wiring.Adder.{Adder}
-use Rattle.lines.specs.Form.{Decimal, one, two, OperandForm, operand, mark, AdderForm, adder, AddersForm, none, more, key, Line, line, Form, Viable, BrokenAt, operand-text, adder-text, adders-text, line-text, One-reading}
+use Rattle.lines.specs.Form.{Decimal, one, two, OperandForm, operand, AdderForm, adder, AddersForm, none, more, Line, line, Form, Viable, BrokenAt, operand-text, adder-text, adders-text, line-text, One-reading}
 use Rattle.lines.proofs.Texts.{says-one}
 
 decimal-written : {n : ℕ} {bs : List ℕ} → Decimal n bs → bs ≡ decimal n

@@ -1,18 +1,16 @@
 -- The steps of the reader's loop.
 use mathlib.Core.Path.{_≡_, sym, ap, subst, _∙_}
-use mathlib.Core.List.{List, [], _∷_, _++_}
+use mathlib.Core.List.{List, [], _∷_}
 use Prim.Native.Nat.{ℕ, _+_, _≤_, _<_}
 use native.Mathlib.Omega.{arith}
 use lib.ListN.{length, take, drop, getD}
-use Rattle.std.proofs.shelf.Lists.{take-more, take-all, take-append-drop, take-more-set, length-push}
+use Rattle.std.proofs.shelf.Lists.{take-more, take-all, take-append-drop}
 use Rattle.std.specs.declared.option.Option.the-variants.{None}
 use Rattle.adders.specs.declared.wiring.Adder.{Adder}
 use Rattle.lines.specs.declared.scan.Part.{Part}
 use Rattle.lines.specs.declared.scan.Move.the-variants.{Broken}
-use Rattle.lines.specs.declared.draft.Draft.{Draft}
 use Rattle.lines.specs.Form.{Form, Viable, BrokenAt}
 use Rattle.lines.specs.Scan.{step, final}
-use Rattle.lines.specs.Drafts.{Holds}
 use Rattle.lines.proofs.Runs.{at, moved, next, run, start, run-append}
 use Rattle.lines.proofs.Texts.{viable, not-viable, unsaid}
 

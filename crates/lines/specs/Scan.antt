@@ -1,13 +1,10 @@
 -- The reader as an automaton, which the code follows step by step. What it comes to is stated over the form.
-use mathlib.Core.Path.{_≡_}
-use mathlib.Core.Bool.{Bool, true, false, cond, _&&_}
-use mathlib.Core.List.{List}
+use mathlib.Core.Bool.{cond, _&&_}
 use Prim.Native.Nat.{ℕ, _+_, _-_, _*_, _≤_, _<_}
 use lib.Dec.{eqb, leb}
 use lib.ListN.{getD}
 use Rattle.std.specs.declared.option.Option.{Option}
 use Rattle.std.specs.declared.option.Option.the-variants.{Some, None}
-use Rattle.adders.specs.declared.wiring.Operand.{Operand}
 use Rattle.adders.specs.declared.wiring.Sign.{Sign}
 use Rattle.adders.specs.declared.wiring.Sign.the-variants.{Plus, Minus}
 use Rattle.lines.specs.declared.scan.Symbol.{Symbol}

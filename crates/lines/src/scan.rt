@@ -8,7 +8,7 @@ use adders::Sign;
 
 // What a byte is to the line.
 #[derive(Clone, Copy)]
-pub enum Symbol {
+pub(crate) enum Symbol {
     Digit(u8),
     Dot,
     Mark(Sign),
@@ -18,7 +18,7 @@ pub enum Symbol {
 
 // A number as far as it is read: nothing yet, one digit that may be followed by another, or all of it.
 #[derive(Clone, Copy)]
-pub enum Number {
+pub(crate) enum Number {
     Empty,
     Open(u8),
     Full(u8),
@@ -26,7 +26,7 @@ pub enum Number {
 
 // What is read of an adder before the number at hand; nothing before its left source, and before the output shift.
 #[derive(Clone, Copy)]
-pub enum Front {
+pub(crate) enum Front {
     Nothing,
     LeftSource(u8),
     Left(Operand, Sign),
@@ -35,14 +35,14 @@ pub enum Front {
 
 // Where in the line the reader stands: after so many bytes of the key, or in a number.
 #[derive(Clone, Copy)]
-pub enum Part {
+pub(crate) enum Part {
     Key(u8),
     Body(Front, Number),
 }
 
 // What one more byte leads to.
 #[derive(Clone, Copy)]
-pub enum Move {
+pub(crate) enum Move {
     On(Part),
     Done(Adder),
     Broken,
@@ -119,7 +119,7 @@ impl Front {
 
 impl Part {
     // The output shift, where the line may end here.
-    pub fn end(self) -> Option<u8>
+    pub(crate) fn end(self) -> Option<u8>
         ensures { λ r. ⌜ r ≡ final self ⌝ }
     {
         match self {
@@ -129,7 +129,7 @@ impl Part {
     }
 
     // What follows where the reader stands here and finds `byte`.
-    pub fn step(self, byte: u8) -> Move
+    pub(crate) fn step(self, byte: u8) -> Move
         requires { ⌜ Sound self ⌝ }
         ensures { λ r. ⌜ r ≡ step self byte ⌝ }
     {

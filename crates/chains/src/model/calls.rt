@@ -7,8 +7,9 @@ ghost use Rattle.std.specs.declared.result.Result.{Result as ResultOf};
 ghost use Rattle.adders.specs.declared.refusals.Refusal.{Refusal as RefusalOf};
 ghost use Rattle.chains.specs.declared.model.Chain.{Chain as ChainOf};
 ghost use Rattle.lines.specs.Form.{line-text};
+ghost use Rattle.adders.specs.Rules.{InRange};
 ghost use Rattle.chains.specs.Rules.{Keeps};
-ghost use Rattle.chains.specs.Chains.{chain-adders, chain-constant, adder-value-at, Judged, Reading, Accepted};
+ghost use Rattle.chains.specs.Chains.{chain-adders, chain-constant, adder-value-at, Shift-and-add, Judged, Reading, Accepted};
 use super::Chain;
 use crate::rules::constant_of;
 use crate::rules::padded;
@@ -70,7 +71,8 @@ impl Chain {
 
     // What a sample of 1 becomes at the output.
     pub fn constant(&self) -> u32
-        ensures { λ r. ⌜ r ≡ chain-constant (now (self .entry)) ⌝ }
+        ensures value { λ r. ⌜ r ≡ chain-constant (now (self .entry)) ⌝ }
+        ensures range { λ r. ⌜ InRange r ⌝ }
     {
         match constant_of(self.adders(), self.shift) {
             Ok(constant) => constant,
@@ -80,7 +82,8 @@ impl Chain {
 
     // What a sample of 1 becomes at an adder, `None` where the chain has no adder of this number.
     pub fn value(&self, adder: usize) -> Option<u32>
-        ensures { λ r. ⌜ r ≡ adder-value-at (now (self .entry)) adder ⌝ }
+        ensures value { λ r. ⌜ r ≡ adder-value-at (now (self .entry)) adder ⌝ }
+        ensures rule { λ r. ⌜ Shift-and-add (now (self .entry)) adder r ⌝ }
     {
         if adder == 0 || adder > self.len {
             return None;

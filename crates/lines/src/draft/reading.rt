@@ -1,7 +1,6 @@
 // Reads a line of the form.
 ghost use mathlib.Core.Path.{_≡_};
 ghost use mathlib.Core.List.{List, [], _∷_, _++_};
-ghost use lib.ListN.{take};
 ghost use Rattle.std.specs.Results.{Cases};
 ghost use Rattle.adders.specs.declared.wiring.Adder.{Adder};
 ghost use Rattle.lines.specs.Form.{BrokenAt, One-reading};
@@ -12,19 +11,9 @@ use crate::scan::Move;
 use crate::scan::Number;
 use crate::scan::Part;
 use adders::Adder;
-use adders::Operand;
-use adders::Sign;
 
-const SAMPLE: Operand = Operand {
-    source: 0,
-    shift: 0,
-};
-
-const SPARE: Adder = Adder {
-    left: SAMPLE,
-    sign: Sign::Plus,
-    right: SAMPLE,
-};
+// How many adders a draft keeps.
+const KEPT: usize = 9;
 
 impl Draft {
     // What the line says, or the first byte after which no line of the form can follow, the length where it stops short.
@@ -70,7 +59,7 @@ impl Draft {
         ensures { λ r. ⌜ Holds r [] ⌝ }
     {
         Draft {
-            adders: [SPARE; 9],
+            adders: [Adder::SPARE; 9],
             count: 0,
             shift: 0,
         }
@@ -79,7 +68,7 @@ impl Draft {
     fn push(&mut self, adder: Adder)
         ensures { λ _. ⌜ ((xs : List Adder) → Holds (now (self .entry)) xs → Holds (now (self .exit)) (xs ++ adder ∷ [])) ⌝ }
     {
-        if self.count < 9 {
+        if self.count < KEPT {
             self.adders[self.count] = adder;
             self.count += 1;
         }
@@ -87,8 +76,6 @@ impl Draft {
 }
 
 // A line of the form says one list of adders and one output shift, and writing these gives the line; a broken line has one place.
-pub fn lines_have_one_reading() -> u8
+pub fn lines_have_one_reading()
     ensures { λ _. ⌜ One-reading ⌝ }
-{
-    0
-}
+{}

@@ -4,7 +4,7 @@ use Prim.Native.Nat.{_-_}
 use native.Mathlib.Omega.{arith}
 use lib.ListN.{length, drop, replicate}
 use Rattle.std.proofs.shelf.Lists.{length-set, take-all, take-append-drop}
-use Rattle.chains.specs.Rules.{spare-adder}
+use Rattle.adders.specs.Values.{spare-adder}
 use Rattle.chains.proofs.Judging.{filled-more, spare-more}
 use Rattle.chains.proofs.rules.padded.Needs as need
 

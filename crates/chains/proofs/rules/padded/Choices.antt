@@ -1,7 +1,7 @@
 use mathlib.Core.Path.{_≡_}
 use Prim.Native.Nat.{_-_}
 use lib.ListN.{length, take, drop, replicate}
-use Rattle.chains.specs.Rules.{spare-adder}
+use Rattle.adders.specs.Values.{spare-adder}
 use Rattle.chains.proofs.rules.padded.Given as given
 
 abbrev pub Inv-loop-i : given.InvT-loop-i

@@ -3,9 +3,8 @@ use Prim.Native.Nat.{_+_, _-_}
 use native.Mathlib.Omega.{arith}
 use lib.ListN.{length, take, drop}
 use Rattle.std.proofs.shelf.Lists.{at-drop-all, length-set}
-use Rattle.adders.specs.Values.{values-from, wired}
+use Rattle.adders.specs.Values.{spare-adder, values-from, wired}
 use Rattle.adders.specs.Rules.{first-broken, rules-from}
-use Rattle.chains.specs.Rules.{spare-adder}
 use Rattle.chains.proofs.Judging.{rules-more, values-more, rules-stop}
 use Rattle.chains.proofs.rules.values_of.Needs as need
 

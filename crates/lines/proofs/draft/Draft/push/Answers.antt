@@ -4,8 +4,8 @@ use native.Mathlib.Omega.{arith}
 use Rattle.std.proofs.shelf.Lists.{take-more-set, take-all, length-push}
 use Rattle.lines.proofs.draft.Draft.push.Needs as need
 
-pub returns-then-self-lt9 : need.returns-then-self-lt9
-returns-then-self-lt9 c xs h =
+pub returns-then-self-lt-KEPT : need.returns-then-self-lt-KEPT
+returns-then-self-lt-KEPT c xs h =
     let d = c .args .self .now in
     let a = c .args .adder in
     let n = h .count in
