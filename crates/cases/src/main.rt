@@ -293,6 +293,30 @@ impl Answer {
     }
 }
 
+// The values of the adders of a worked chain, with the numbers before and past them.
+const VALUED: &[u8] = b"chain=0.0+0.2 1.0+1.11 2.0+0.5 3.0-0.8 0";
+
+const VALUES: [Option<u32>; 6] = [
+    None,
+    Some(5),
+    Some(10_245),
+    Some(10_277),
+    Some(10_021),
+    None,
+];
+
+fn values_agree() -> bool {
+    let Ok(chain) = Chain::read(VALUED) else {
+        return false;
+    };
+    for (adder, value) in VALUES.iter().enumerate() {
+        if chain.value(adder) != *value {
+            return false;
+        }
+    }
+    chain.adders().len() == 4 && chain.shift() == 0
+}
+
 fn main(rt: LibcRuntime) -> io::Result<()> {
     let mut agreed = 0usize;
     for case in &CASES {
@@ -304,5 +328,7 @@ fn main(rt: LibcRuntime) -> io::Result<()> {
         }
     }
     let all = CASES.len();
-    println!(rt, "{agreed} of {all} lines agree")
+    println!(rt, "{agreed} of {all} lines agree")?;
+    let values = if values_agree() { "agree" } else { "differ" };
+    println!(rt, "the values of a chain {values}")
 }

@@ -1,12 +1,7 @@
 // Reads chain lines from standard input, and prints for each its constant, or the number and the place of its refusal.
-ghost use mathlib.Core.Path.{_≡_};
 ghost use Rattle.std.specs.Of.String.{string-bytes};
 ghost use Rattle.std.specs.Vec.{made};
-ghost use Rattle.std.specs.declared.result.Result.{Result as ResultOf};
-ghost use Rattle.adders.specs.declared.refusals.Refusal.{Refusal as RefusalOf};
-ghost use Rattle.chains.specs.declared.model.Chain.{Chain as ChainOf};
-ghost use Rattle.chains.specs.Chains.{Reading};
-ghost use Rattle.constants.specs.Reports.{report-text};
+ghost use Rattle.constants.specs.Reports.{Reports};
 use chains::Chain;
 use std::alloc::AllocError;
 use std::alloc::Global;
@@ -16,7 +11,7 @@ use std::io::BufReader;
 
 // What is printed for a line, without its line feed.
 fn report(heap: Global, line: &[u8]) -> Result<String, AllocError>
-    ensures { λ r. ⌜ made r (λ s. (a : ResultOf ChainOf RefusalOf) × Reading (now (line .entry)) a × (string-bytes s ≡ report-text a)) ⌝ }
+    ensures { λ r. ⌜ made r (λ s. Reports (now (line .entry)) (string-bytes s)) ⌝ }
 {
     match Chain::read(line) {
         Ok(chain) => {

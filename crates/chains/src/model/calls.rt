@@ -3,13 +3,10 @@ ghost use mathlib.Core.Path.{_≡_};
 ghost use Rattle.std.specs.Orderings.{Decides};
 ghost use Rattle.std.specs.Results.{isOk};
 ghost use Rattle.std.specs.Vec.{made};
-ghost use Rattle.std.specs.declared.result.Result.{Result as ResultOf};
-ghost use Rattle.adders.specs.declared.refusals.Refusal.{Refusal as RefusalOf};
-ghost use Rattle.chains.specs.declared.model.Chain.{Chain as ChainOf};
 ghost use Rattle.lines.specs.Form.{line-text};
 ghost use Rattle.adders.specs.Rules.{InRange};
 ghost use Rattle.chains.specs.Rules.{Keeps};
-ghost use Rattle.chains.specs.Chains.{chain-adders, chain-constant, adder-value-at, Shift-and-add, Judged, Reading, Accepted};
+ghost use Rattle.chains.specs.Chains.{chain-adders, chain-constant, adder-value-at, Shift-and-add, Judged, Reading, Only, Accepted};
 use super::Chain;
 use crate::rules::constant_of;
 use crate::rules::padded;
@@ -25,7 +22,7 @@ impl Chain {
     // The chain that a line says, or the first cause to turn the line down.
     pub fn read(line: &[u8]) -> Result<Chain, Refusal>
         ensures answer { λ r. ⌜ Reading (now (line .entry)) r ⌝ }
-        ensures only { λ r. ⌜ ((s : ResultOf ChainOf RefusalOf) → Reading (now (line .entry)) s → s ≡ r) ⌝ }
+        ensures only { λ r. ⌜ Only (Reading (now (line .entry))) r ⌝ }
         ensures exactly { λ r. ⌜ Decides (isOk r) (Accepted (now (line .entry))) ⌝ }
         ensures again { λ r. ⌜ made r (λ c. now (line .entry) ≡ line-text (chain-adders c) (c .shift)) ⌝ }
     {
@@ -41,7 +38,7 @@ impl Chain {
     // The chain of these adders and this output shift, or the first rule that they break.
     pub fn new(adders: &[Adder], shift: u8) -> Result<Chain, Refusal>
         ensures answer { λ r. ⌜ Judged (now (adders .entry)) shift r ⌝ }
-        ensures only { λ r. ⌜ ((s : ResultOf ChainOf RefusalOf) → Judged (now (adders .entry)) shift s → s ≡ r) ⌝ }
+        ensures only { λ r. ⌜ Only (Judged (now (adders .entry)) shift) r ⌝ }
         ensures exactly { λ r. ⌜ Decides (isOk r) (Keeps (now (adders .entry)) shift) ⌝ }
     {
         match constant_of(adders, shift) {
