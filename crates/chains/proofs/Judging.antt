@@ -26,30 +26,38 @@ module _ (xs slots : List Adder) (i : ℕ) (d : Adder) (room : i < length slots)
   spare-more same =
       drop-set-lt (i + 1) slots i (getD xs i d) (omega arith) ∙ sym (drop-drop 1 i slots) ∙ ap (drop 1) same ∙ drop-replicate 1 (8 - i) spare-adder ∙ ap (λ n. replicate n spare-adder) (omega arith)
 
--- the adder at place i, over the values at of the sources below it; n is how many these are
+-- the adder at place i, over the values at of the sources below it, of which the code takes the first n
 module _ (xs : List Adder) (i : ℕ) (at : List ℕ) (d : Adder) (h : i < length xs) (room : i + 1 < length at) (n : ℕ) (up : n ≡ i + 1) where
-  module _ (v : ℕ) (e : v ≡ adder-value (take n at) (getD xs i d)) where
-    pub values-more : values-from (take n at) (wired (drop i xs)) ≡ values-from (take (i + 1 + 1) (set at (i + 1) v)) (wired (drop (i + 1) xs))
-    values-more =
-        at-drop-more (λ ys. values-from (take n at) (wired ys)) xs i d h
-        ∙ ap (λ w. values-from (take n at ++ w ∷ []) (wired (drop (i + 1) xs))) (sym e)
-        ∙ ap (λ m. values-from (take m at ++ v ∷ []) (wired (drop (i + 1) xs))) up
-        ∙ ap (λ w. values-from w (wired (drop (i + 1) xs))) (sym (take-more-set at (i + 1) v room))
+  rest : List Adder
+  rest = drop (i + 1) xs
 
-    pub rules-more : first-broken (adder-rules (take n at) (getD xs i d)) ≡ None → first-broken (rules-from (take n at) (wired (drop i xs))) ≡ first-broken (rules-from (take (i + 1 + 1) (set at (i + 1) v)) (wired (drop (i + 1) xs)))
-    rules-more p =
-        at-drop-more (λ ys. first-broken (rules-from (take n at) (wired ys))) xs i d h
-        ∙ broken-append (adder-rules (take n at) (getD xs i d)) (rules-from (take n at ++ adder-value (take n at) (getD xs i d) ∷ []) (wired (drop (i + 1) xs)))
-        ∙ ap (λ o. otherwise o (first-broken (rules-from (take n at ++ adder-value (take n at) (getD xs i d) ∷ []) (wired (drop (i + 1) xs))))) p
-        ∙ ap (λ w. first-broken (rules-from (take n at ++ w ∷ []) (wired (drop (i + 1) xs)))) (sym e)
-        ∙ ap (λ m. first-broken (rules-from (take m at ++ v ∷ []) (wired (drop (i + 1) xs)))) up
-        ∙ ap (λ w. first-broken (rules-from w (wired (drop (i + 1) xs)))) (sym (take-more-set at (i + 1) v room))
-
-  pub rules-stop : (r : Refusal) → first-broken (adder-rules (take n at) (getD xs i d)) ≡ Some r → first-broken (rules-from (take n at) (wired (drop i xs))) ≡ Some r
-  rules-stop r p =
-      at-drop-more (λ ys. first-broken (rules-from (take n at) (wired ys))) xs i d h
+  -- the adder's rules, and those of the rest
+  split : first-broken (rules-from (take (i + 1) at) (wired (drop i xs))) ≡ otherwise (first-broken (adder-rules (take n at) (getD xs i d))) (first-broken (rules-from (take n at ++ adder-value (take n at) (getD xs i d) ∷ []) (wired rest)))
+  unfolding rest
+  split =
+      ap (λ m. first-broken (rules-from (take m at) (wired (drop i xs)))) (sym up)
+      ∙ at-drop-more (λ ys. first-broken (rules-from (take n at) (wired ys))) xs i d h
       ∙ broken-append (adder-rules (take n at) (getD xs i d)) (rules-from (take n at ++ adder-value (take n at) (getD xs i d) ∷ []) (wired (drop (i + 1) xs)))
-      ∙ ap (λ o. otherwise o (first-broken (rules-from (take n at ++ adder-value (take n at) (getD xs i d) ∷ []) (wired (drop (i + 1) xs))))) p
+
+  pub rules-stop : (r : Refusal) → first-broken (adder-rules (take n at) (getD xs i d)) ≡ Some r → first-broken (rules-from (take (i + 1) at) (wired (drop i xs))) ≡ Some r
+  rules-stop r p = split ∙ ap (λ o. otherwise o (first-broken (rules-from (take n at ++ adder-value (take n at) (getD xs i d) ∷ []) (wired rest)))) p
+
+  module _ (v : ℕ) (e : v ≡ adder-value (take n at) (getD xs i d)) where
+    -- the values with the adder's own
+    grown : take n at ++ adder-value (take n at) (getD xs i d) ∷ [] ≡ take (i + 1 + 1) (set at (i + 1) v)
+    grown = ap (λ w. take n at ++ w ∷ []) (sym e) ∙ ap (λ m. take m at ++ v ∷ []) up ∙ sym (take-more-set at (i + 1) v room)
+
+    pub values-more : values-from (take (i + 1) at) (wired (drop i xs)) ≡ values-from (take (i + 1 + 1) (set at (i + 1) v)) (wired (drop (i + 1) xs))
+    values-more =
+        ap (λ m. values-from (take m at) (wired (drop i xs))) (sym up)
+        ∙ at-drop-more (λ ys. values-from (take n at) (wired ys)) xs i d h
+        ∙ ap (λ vs. values-from vs (wired (drop (i + 1) xs))) grown
+
+    pub rules-more : first-broken (adder-rules (take n at) (getD xs i d)) ≡ None → first-broken (rules-from (take (i + 1) at) (wired (drop i xs))) ≡ first-broken (rules-from (take (i + 1 + 1) (set at (i + 1) v)) (wired (drop (i + 1) xs)))
+    unfolding rest
+    rules-more p =
+        split ∙ ap (λ o. otherwise o (first-broken (rules-from (take n at ++ adder-value (take n at) (getD xs i d) ∷ []) (wired rest)))) p
+        ∙ ap (λ vs. first-broken (rules-from vs (wired rest))) grown
 
 module _ (j : ℕ) (xs : List Adder) (i : ℕ) (d : Adder) (h : i < length xs) where
   pub reads-found : true ≡ reads j (getD xs i d) → some-reads j (drop i xs) ≡ true

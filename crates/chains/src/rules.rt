@@ -1,13 +1,11 @@
 // The rules of a chain, tested in their order.
 ghost use mathlib.Core.Path.{_≡_};
 ghost use mathlib.Core.List.{_++_};
-ghost use Prim.Native.Nat.{_+_, _-_, _≤_, _<_};
-ghost use lib.ListN.{length, take, replicate};
-ghost use Rattle.std.specs.Results.{Cases};
-ghost use Rattle.std.specs.declared.option.Option.the-variants.{Some, None};
-ghost use Rattle.adders.specs.Values.{sample, values-from, wired, spare-adder};
-ghost use Rattle.adders.specs.Rules.{first-broken, Tried, rules-from};
-ghost use Rattle.chains.specs.Rules.{some-reads, read-rules, chain-rules, constant};
+ghost use Prim.Native.Nat.{_-_, _≤_};
+ghost use lib.ListN.{length, replicate};
+ghost use Rattle.adders.specs.Values.{spare-adder};
+ghost use Rattle.adders.specs.Rules.{first-broken, Tried};
+ghost use Rattle.chains.specs.Rules.{Valued, some-reads, read-rules, chain-rules, constant};
 use adders::Adder;
 use adders::Refusal;
 use adders::output_value;
@@ -30,14 +28,12 @@ pub(crate) fn padded(adders: &[Adder]) -> [Adder; 8]
 // The values of the sample and of the adders, or the first rule that an adder breaks.
 pub(crate) fn values_of(adders: &[Adder]) -> Result<[u32; 9], Refusal>
     requires { ⌜ length (now adders) ≤ 8 ⌝ }
-    ensures { λ r. ⌜ Cases r (λ at. (first-broken (rules-from sample (wired (now (adders .entry)))) ≡ None) × (take (length (now (adders .entry)) + 1) at ≡ values-from sample (wired (now (adders .entry)))) × (length at ≡ 9)) (λ e. first-broken (rules-from sample (wired (now (adders .entry)))) ≡ Some e) ⌝ }
+    ensures { λ r. ⌜ Valued (now (adders .entry)) r ⌝ }
 {
     let mut at = [1u32; 9];
-    for i in 0..adders.len() {
-        match adders[i].value(&at[0..i + 1]) {
-            Ok(value) => at[i + 1] = value,
-            Err(refusal) => return Err(refusal),
-        }
+    for (i, adder) in adders.iter().enumerate() {
+        let value = adder.value(&at[0..i + 1])?;
+        at[i + 1] = value;
     }
     Ok(at)
 }
