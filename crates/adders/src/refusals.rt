@@ -33,7 +33,7 @@ pub enum Refusal {
     // a select code that has a row already
     CodeLive,
     // a chain has more adders than the block
-    TooFewBlockAdders,
+    BlockTooSmall,
     // a select code that has no row
     CodeIdle,
     // a row does not use this adder
@@ -103,7 +103,7 @@ impl Refusal {
             Refusal::AdderUnread(_) => 16,
             Refusal::CodeAboveFifteen => 20,
             Refusal::CodeLive => 21,
-            Refusal::TooFewBlockAdders => 22,
+            Refusal::BlockTooSmall => 22,
             Refusal::CodeIdle => 23,
             Refusal::AdderUnused => 24,
             Refusal::AmountOutOfRange => 25,
