@@ -105,15 +105,15 @@ closes f xs b y after h rest =
     let r = reads f xs h in
     r .runs (b ∷ rest) ∙ ap (λ m. run (moved xs m) rest) (after (r .got) ∙ ap (λ v. ended f v y) (r .is))
 
-after-mark : (f : Front) (m : Number) (g : Sign) → step (Body f m) (mark g) ≡ ended f (value m) (Mark g)
-after-mark f m Plus = refl
-after-mark f m Minus = refl
+mark-ends : (f : Front) (m : Number) (g : Sign) → step (Body f m) (mark g) ≡ ended f (value m) (Mark g)
+mark-ends f m Plus = refl
+mark-ends f m Minus = refl
 
 run-left : {l : Operand} {t : List ℕ} (xs : List Adder) (g : Sign) → OperandForm l t → (rest : List ℕ) → run (at xs (Body Nothing Empty)) (t ++ mark g ∷ rest) ≡ run (at xs (Body (Left l g) Empty)) rest
 run-left {l} xs g (operand {s = s} {h = h} a b) rest =
     ap (run _) (append-assoc s (46 ∷ h) (mark g ∷ rest))
     ∙ closes Nothing xs 46 Dot (λ m. refl) a _
-    ∙ closes (LeftSource (l .source)) xs (mark g) (Mark g) (λ m. after-mark (LeftSource (l .source)) m g) b rest
+    ∙ closes (LeftSource (l .source)) xs (mark g) (Mark g) (λ m. mark-ends (LeftSource (l .source)) m g) b rest
 
 run-right : {r : Operand} {t : List ℕ} (xs : List Adder) (l : Operand) (g : Sign) → OperandForm r t → (rest : List ℕ) → run (at xs (Body (Left l g) Empty)) (t ++ 32 ∷ rest) ≡ run (at (xs ++ record { left = l; sign = g; right = r } ∷ []) (Body Nothing Empty)) rest
 run-right {r} xs l g (operand {s = s} {h = h} a b) rest =

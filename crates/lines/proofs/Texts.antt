@@ -26,7 +26,7 @@ use Rattle.lines.specs.declared.scan.Part.the-variants.{Key, Body}
 use Rattle.lines.specs.declared.scan.Move.{Move}
 use Rattle.lines.specs.declared.scan.Move.the-variants.{On, Done, Broken}
 use Rattle.lines.specs.Form.{Decimal, one, two, OperandForm, operand, mark, AdderForm, adder, AddersForm, none, more, key, Line, line, Form, Viable}
-use Rattle.lines.specs.Scan.{symbol, push, value, grown, at-dot, at-mark, at-space, closed, ended, on-symbol, on-key, step, final, Small, Sound}
+use Rattle.lines.specs.Scan.{symbol, push, value, grown, after-dot, after-mark, after-space, closed, ended, on-symbol, on-key, step, final, Small, Sound}
 use Rattle.lines.proofs.Runs.{State, at, dead, moved, next, run, start, run-append, run-dead, Means, means, digit, digit-open, run-line}
 
 -- the bytes of a number as far as it is read
@@ -86,40 +86,32 @@ growing : {f : Front} {p : List ℕ} (o : Option Number) (m : List ℕ) → Befo
 growing (Some k) m b h = tail b h
 growing None m b h = tt
 
--- t c is the part with the byte c after it
-dot-moved : (t : ℕ → List ℕ) (b : ℕ) (y : Symbol) (m : Move) → Means y b → Moved m (t 46) → Moved (at-dot y m) (t b)
-dot-moved t b (Digit d) m e h = tt
-dot-moved t b Dot m e h = subst (λ c. Moved m (t c)) (sym e) h
-dot-moved t b (Mark g) m e h = tt
-dot-moved t b Space m e h = tt
-dot-moved t b Other m e h = tt
-
-mark-moved : (t : ℕ → List ℕ) (b : ℕ) (y : Symbol) (m : Sign → Move) → Means y b → ((g : Sign) → Moved (m g) (t (mark g))) → Moved (at-mark y m) (t b)
-mark-moved t b (Digit d) m e h = tt
-mark-moved t b Dot m e h = tt
-mark-moved t b (Mark g) m e h = subst (λ c. Moved (m g) (t c)) (sym e) (h g)
-mark-moved t b Space m e h = tt
-mark-moved t b Other m e h = tt
-
-space-moved : (t : ℕ → List ℕ) (b : ℕ) (y : Symbol) (m : Move) → Means y b → Moved m (t 32) → Moved (at-space y m) (t b)
-space-moved t b (Digit d) m e h = tt
-space-moved t b Dot m e h = tt
-space-moved t b (Mark g) m e h = tt
-space-moved t b Space m e h = subst (λ c. Moved m (t c)) (sym e) h
-space-moved t b Other m e h = tt
-
 -- the number w, written m, is at its end
+dot-step : {f : Front} {p : List ℕ} (w : ℕ) (m : List ℕ) → Before f p → Decimal w m → Moved (after-dot f w) ((p ++ m) ++ 46 ∷ [])
+dot-step w m nothing h = fresh (left-source h)
+dot-step w m (left-source a) h = tt
+dot-step w m (left {l = l} {g = g} {t = t} a) h =
+    let same : t ++ mark g ∷ (m ++ 46 ∷ []) ≡ ((t ++ mark g ∷ []) ++ m) ++ 46 ∷ [] = simp append-assoc in subst (Tail (Body (RightSource l g w) Empty)) same (fresh (right-source a h))
+dot-step w m (right-source a d) h = tt
+
+mark-step : {f : Front} {p : List ℕ} (k : Sign) (w : ℕ) (m : List ℕ) → Before f p → Decimal w m → Moved (after-mark k f w) ((p ++ m) ++ mark k ∷ [])
+mark-step k w m nothing h = tt
+mark-step k w m (left-source {s = s} {t = t} a) h = subst (λ u. Tail (Body (Left (record { source = s; shift = w }) k) Empty) (u ++ mark k ∷ [])) (sym (append-assoc t (46 ∷ []) m)) (fresh (left (operand a h)))
+mark-step k w m (left a) h = tt
+mark-step k w m (right-source a d) h = tt
+
+space-step : {f : Front} {p : List ℕ} (w : ℕ) (m : List ℕ) → Before f p → Decimal w m → Moved (after-space f w) ((p ++ m) ++ 32 ∷ [])
+space-step w m nothing h = tt
+space-step w m (left-source a) h = tt
+space-step w m (left a) h = tt
+space-step w m (right-source {g = g} {t = t} {u = u} a d) h = (t ++ mark g ∷ (u ++ 46 ∷ m), adder a (operand d h), simp append-assoc)
+
 close-step : {f : Front} {p : List ℕ} (w : ℕ) (m : List ℕ) (b : ℕ) (y : Symbol) → Before f p → Decimal w m → Means y b → Moved (closed f w y) ((p ++ m) ++ b ∷ [])
-close-step w m b y nothing h e = dot-moved (λ c. m ++ c ∷ []) b y _ e (fresh (left-source h))
-close-step w m b y (left-source {s = s} {t = t} a) h e =
-    mark-moved (λ c. ((t ++ 46 ∷ []) ++ m) ++ c ∷ []) b y _ e
-    (λ g. subst (λ u. Tail (Body (Left (record { source = s; shift = w }) g) Empty) (u ++ mark g ∷ [])) (sym (append-assoc t (46 ∷ []) m)) (fresh (left (operand a h))))
-close-step w m b y (left {l = l} {g = g} {t = t} a) h e =
-    dot-moved (λ c. ((t ++ mark g ∷ []) ++ m) ++ c ∷ []) b y _ e
-    (let same : t ++ mark g ∷ (m ++ 46 ∷ []) ≡ ((t ++ mark g ∷ []) ++ m) ++ 46 ∷ [] = simp append-assoc in subst (Tail (Body (RightSource l g w) Empty)) same (fresh (right-source a h)))
-close-step w m b y (right-source {g = g} {t = t} {u = u} a d) h e =
-    space-moved (λ c. ((t ++ mark g ∷ (u ++ 46 ∷ [])) ++ m) ++ c ∷ []) b y _ e
-    (t ++ mark g ∷ (u ++ 46 ∷ m), adder a (operand d h), simp append-assoc)
+close-step w m b (Digit d) x h e = tt
+close-step {f} {p} w m b Dot x h e = subst (λ c. Moved (after-dot f w) ((p ++ m) ++ c ∷ [])) (sym e) (dot-step w m x h)
+close-step {f} {p} w m b (Mark g) x h e = subst (λ c. Moved (after-mark g f w) ((p ++ m) ++ c ∷ [])) (sym e) (mark-step g w m x h)
+close-step {f} {p} w m b Space x h e = subst (λ c. Moved (after-space f w) ((p ++ m) ++ c ∷ [])) (sym e) (space-step w m x h)
+close-step w m b Other x h e = tt
 
 end-step : {f : Front} {p : List ℕ} (v : Option ℕ) (m : List ℕ) (b : ℕ) (y : Symbol) → Before f p → Valued v m → Means y b → Moved (ended f v y) ((p ++ m) ++ b ∷ [])
 unfolding Valued

@@ -39,34 +39,31 @@ abbrev pub grown : Front → Option Number → Move
 grown f (Some m) = On (Body f m)
 grown f None = Broken
 
--- what one symbol leads to, where any other breaks the line
-abbrev pub at-dot : Symbol → Move → Move
-at-dot (Digit d) m = Broken
-at-dot Dot m = m
-at-dot (Mark g) m = Broken
-at-dot Space m = Broken
-at-dot Other m = Broken
+-- the number n after a front is at its end: a dot ends a source, a sign the left shift, a space the right shift, and nothing else does
+abbrev pub after-dot : Front → ℕ → Move
+after-dot Nothing n = On (Body (LeftSource n) Empty)
+after-dot (LeftSource s) n = Broken
+after-dot (Left l g) n = On (Body (RightSource l g n) Empty)
+after-dot (RightSource l g s) n = Broken
 
-abbrev pub at-mark : Symbol → (Sign → Move) → Move
-at-mark (Digit d) m = Broken
-at-mark Dot m = Broken
-at-mark (Mark g) m = m g
-at-mark Space m = Broken
-at-mark Other m = Broken
+abbrev pub after-mark : Sign → Front → ℕ → Move
+after-mark h Nothing n = Broken
+after-mark h (LeftSource s) n = On (Body (Left (record { source = s; shift = n }) h) Empty)
+after-mark h (Left l g) n = Broken
+after-mark h (RightSource l g s) n = Broken
 
-abbrev pub at-space : Symbol → Move → Move
-at-space (Digit d) m = Broken
-at-space Dot m = Broken
-at-space (Mark g) m = Broken
-at-space Space m = m
-at-space Other m = Broken
+abbrev pub after-space : Front → ℕ → Move
+after-space Nothing n = Broken
+after-space (LeftSource s) n = Broken
+after-space (Left l g) n = Broken
+after-space (RightSource l g s) n = Done (record { left = l; sign = g; right = record { source = s; shift = n } })
 
--- the number n after a front is at its end
 abbrev pub closed : Front → ℕ → Symbol → Move
-closed Nothing n y = at-dot y (On (Body (LeftSource n) Empty))
-closed (LeftSource s) n y = at-mark y (λ g. On (Body (Left (record { source = s; shift = n }) g) Empty))
-closed (Left l g) n y = at-dot y (On (Body (RightSource l g n) Empty))
-closed (RightSource l g s) n y = at-space y (Done (record { left = l; sign = g; right = record { source = s; shift = n } }))
+closed f n (Digit d) = Broken
+closed f n Dot = after-dot f n
+closed f n (Mark g) = after-mark g f n
+closed f n Space = after-space f n
+closed f n Other = Broken
 
 abbrev pub ended : Front → Option ℕ → Symbol → Move
 ended f (Some n) y = closed f n y
