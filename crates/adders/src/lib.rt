@@ -1,4 +1,6 @@
 // Adders and what they read, their values for a sample of 1, and why a call is turned down.
+#![tactic(auto)]
+
 mod refusals;
 mod values;
 mod wiring;

@@ -1,4 +1,6 @@
 // Arithmetics: samples that can be added, subtracted and shifted, and what they mean.
+#![tactic(auto)]
+
 mod arithmetic;
 mod frame;
 mod laws;

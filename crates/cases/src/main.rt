@@ -1,4 +1,6 @@
 // Compares what reading answers with a table of lines: forms broken in every way, lengths at the limits, and rules at their edges.
+#![tactic(auto)]
+
 use chains::Chain;
 use std::io;
 

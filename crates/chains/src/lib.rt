@@ -1,4 +1,6 @@
 // Chains of adders: read from a line, judged by their rules, and valued.
+#![tactic(auto)]
+
 mod model;
 mod rules;
 mod worked;

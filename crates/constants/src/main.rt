@@ -1,4 +1,6 @@
 // Reads chain lines from standard input, and prints for each its constant, or the number and the place of its refusal.
+#![tactic(auto)]
+
 ghost use Rattle.std.specs.Prelude.{IfOk, string_bytes};
 ghost use Rattle.constants.specs.Reports.{Reports};
 

@@ -1,4 +1,6 @@
 // Whole numbers of 64 bits as lines of text.
+#![tactic(auto)]
+
 mod reader;
 mod scan;
 

@@ -1,4 +1,6 @@
 // The form of a chain line, and its reader: the adders and the output shift that a line says, or the byte where its form breaks.
+#![tactic(auto)]
+
 mod draft;
 mod scan;
 

@@ -1,4 +1,6 @@
 // Reads a chain line and then samples from standard input, and prints the chain's multiple of each sample on words, residues and frames.
+#![tactic(auto)]
+
 mod report;
 
 use adders::Refusal;

@@ -1,4 +1,6 @@
 // An arithmetic of a customer's own, run by the generator's runner: the harmonics of an oscillator's phase.
+#![tactic(auto)]
+
 mod phase;
 
 use chains::Chain;

@@ -1,4 +1,6 @@
 // Compares what making a row answers with a table of rows, and what running answers with products that were worked out by hand.
+#![tactic(auto)]
+
 mod samples;
 mod table;
 

@@ -1,4 +1,6 @@
 // Rows: what a select code makes of a sample, adder by adder.
+#![tactic(auto)]
+
 mod laws;
 mod model;
 mod rules;

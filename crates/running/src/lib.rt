@@ -1,4 +1,6 @@
 // Running rows: one runner for every arithmetic.
+#![tactic(auto)]
+
 mod results;
 mod runner;
 mod worked;
