@@ -5,17 +5,17 @@ use Rattle.rows.specs.Rules.{use_rules}
 use Rattle.rows.proofs.Marking.{use_stop, use_more}
 use Rattle.rows.proofs.rules.first_misused.Goals as goal
 
-pub returns-then-is-some-read : goal.returns-then-is-some-read
-returns-then-is-some-read c =
+pub returns-then-is_some-read : goal.returns-then-is_some-read
+returns-then-is_some-read c =
     let i = c.loop-i.i in
     let eight : length c.args.slots ≡ 8 = search rules in
-    sym (c.loop-i.invariant ∙ use_stop c.args.slots c.args.source i (omega arith) c.is-some.result _ c.is-some.ensures (c.sources-read-read.ensures (i + 1) (omega arith)) c.if-is-some-read.true)
+    sym (c.loop-i.invariant ∙ use_stop c.args.slots c.args.source i (omega arith) c.is_some.result _ c.is_some.ensures (c.sources_read-read.ensures (i + 1) (omega arith)) c.if-is_some-read.true)
 
 pub loop-i-preserved : goal.loop-i-preserved
 loop-i-preserved c =
     let i = c.loop-i.i in
     let eight : length c.args.slots ≡ 8 = search rules in
-    c.loop-i.invariant ∙ use_more c.args.slots c.args.source i (omega arith) c.is-some.result _ c.is-some.ensures (c.sources-read-read.ensures (i + 1) (omega arith)) c.if-is-some-read.false
+    c.loop-i.invariant ∙ use_more c.args.slots c.args.source i (omega arith) c.is_some.result _ c.is_some.ensures (c.sources_read-read.ensures (i + 1) (omega arith)) c.if-is_some-read.false
 
 pub returns : goal.returns
 returns c =

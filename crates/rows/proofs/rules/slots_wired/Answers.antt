@@ -7,20 +7,20 @@ use Rattle.rows.specs.Rules.{wiring_from}
 use Rattle.rows.proofs.Marking.{wiring_more}
 use Rattle.rows.proofs.rules.slots_wired.Goals as goal
 
-pub returns-in-err-slot-wired : goal.returns-in-err-slot-wired
-returns-in-err-slot-wired c =
-    let p = err_from_is_err_and c.from-residual.result c.from-residual.ensures.1 in
+pub returns-in_err-slot_wired : goal.returns-in_err-slot_wired
+returns-in_err-slot_wired c =
+    let p = err_from_is_err_and c.from_residual.result c.from_residual.ensures.1 in
     let xs = c.args.slots in
     let i = c.loop-i.i in
     let eight : length xs ≡ 8 = search rules in
-    rw (p.1, p.2) (c.loop-i.invariant ∙ wiring_more xs i (omega arith) ∙ ap (λ o. otherwise o (first_broken (wiring_from (i + 1 + 1) (drop (i + 1) xs)))) c.in-err-slot-wired.ensures)
+    rw (p.1, p.2) (c.loop-i.invariant ∙ wiring_more xs i (omega arith) ∙ ap (λ o. otherwise o (first_broken (wiring_from (i + 1 + 1) (drop (i + 1) xs)))) c.in_err-slot_wired.ensures)
 
 pub loop-i-preserved : goal.loop-i-preserved
 loop-i-preserved c =
     let xs = c.args.slots in
     let i = c.loop-i.i in
     let eight : length xs ≡ 8 = search rules in
-    c.loop-i.invariant ∙ wiring_more xs i (omega arith) ∙ ap (λ o. otherwise o (first_broken (wiring_from (i + 1 + 1) (drop (i + 1) xs)))) c.in-ok-slot-wired.ensures.0
+    c.loop-i.invariant ∙ wiring_more xs i (omega arith) ∙ ap (λ o. otherwise o (first_broken (wiring_from (i + 1 + 1) (drop (i + 1) xs)))) c.in_ok-slot_wired.ensures.0
 
 pub returns : goal.returns
 returns c =

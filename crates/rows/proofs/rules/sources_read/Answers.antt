@@ -20,11 +20,11 @@ loop-place-preserved-in-Some c =
     let l = lower c.args.slots c.requires.wired (p - 1) c.in-Some.adder c.in-Some.is in
     filled c.args.slots c.args.source p (p - 1) (omega arith) (omega arith) c.loop-place.auto.place c.loop-place.read c.loop-place.invariant c.in-Some.adder c.if-read-place.true c.in-Some.is (omega (arith, l.0)) (omega (arith, l.1))
 
-pub loop-place-preserved-in-default : goal.loop-place-preserved-in-default
-loop-place-preserved-in-default c =
+pub loop-place-preserved-in_default : goal.loop-place-preserved-in_default
+loop-place-preserved-in_default c =
     let eight : length c.args.slots ≡ 8 = search rules in
     let p = c.loop-place.place in
-    empty c.args.slots c.args.source p (p - 1) (omega arith) (omega arith) c.loop-place.auto.place c.loop-place.read c.loop-place.invariant c.if-read-place.true (none_left _ c.in-default.not-Some)
+    empty c.args.slots c.args.source p (p - 1) (omega arith) (omega arith) c.loop-place.auto.place c.loop-place.read c.loop-place.invariant c.if-read-place.true (none_left _ c.in_default.not-Some)
 
 pub loop-place-preserved : goal.loop-place-preserved
 loop-place-preserved c =

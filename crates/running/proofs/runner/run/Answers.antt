@@ -10,8 +10,8 @@ loop-i-init g c =
     let m = g.X.Arithmetic in
     carries_first m.operations g.met.X.Arithmetic.laws m.means c.slots-slots.result (listed c.new-results.result) c.new-results.result.0 refl
 
-pub slot-result-result-requires : goal.slot-result-result-requires
-slot-result-result-requires g c = within_nine c.slots-slots.result c.loop-i.i c.slots-slots.ensures.lawful.adders c.loop-i-test.true _ refl
+pub slot_result-result-requires : goal.slot_result-result-requires
+slot_result-result-requires g c = within_nine c.slots-slots.result c.loop-i.i c.slots-slots.ensures.lawful.adders c.loop-i-test.true _ refl
 
 pub loop-i-preserved : goal.loop-i-preserved
 loop-i-preserved g c =
@@ -20,8 +20,8 @@ loop-i-preserved g c =
     let x = c.new-results.result.0 in
     let eight : length xs ≡ 8 = search rules in
     let room : c.loop-i.i + 1 < 9 = omega arith in
-    carries_more m.operations g.met.X.Arithmetic.laws m.means xs c.loop-i.i (listed c.loop-i.results) _ x c.slot-result-result.result
-    c.slots-slots.ensures.lawful.adders (omega arith) room c.loop-i.invariant (c.slot-result-result.ensures x) c.put.ensures
+    carries_more m.operations g.met.X.Arithmetic.laws m.means xs c.loop-i.i (listed c.loop-i.results) _ x c.slot_result-result.result
+    c.slots-slots.ensures.lawful.adders (omega arith) room c.loop-i.invariant (c.slot_result-result.ensures x) c.put.ensures
 
 pub returns : goal.returns
 returns g c =

@@ -11,8 +11,8 @@ loop-turn-init g c =
     let k : ℕ = c.from.result * 2 ^ f % 18446744073709551616 in
     sym (ap (λ n. (k % m * 2 ^ n) % m) (sub_self f) ∙ ap (λ n. n % m) (mul-one (k % m)) ∙ mod-mod k m)
 
-pub overflow-mul-number : goal.overflow-mul-number
-overflow-mul-number g c =
+pub overflow_mul-number : goal.overflow_mul-number
+overflow_mul-number g c =
     let b = g.K.Modulus.bounds in
     let below = residue_below b c.from-m.result _ c.loop-turn.number (c.from-m.ensures ∙ c.divisor.ensures) c.loop-turn.invariant in
     omega (arith, b.most)
@@ -21,8 +21,8 @@ pub loop-turn-preserved : goal.loop-turn-preserved
 loop-turn-preserved g c =
     doubled_again c.from-m.result _ (c.loop-turn.-turn - c.min-first.result) (c.loop-turn.-turn + 1 - c.min-first.result) c.loop-turn.number (omega (arith, c.loop-turn.auto.-turn)) c.loop-turn.invariant
 
-pub overflow-cast-number-2 : goal.overflow-cast-number-2
-overflow-cast-number-2 g c =
+pub overflow_cast-number-2 : goal.overflow_cast-number-2
+overflow_cast-number-2 g c =
     let b = g.K.Modulus.bounds in
     let below = residue_below b c.from-m.result _ c.loop-turn.number (c.from-m.ensures ∙ c.divisor.ensures) c.loop-turn.invariant in
     omega (arith, b.most)

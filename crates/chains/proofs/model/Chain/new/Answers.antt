@@ -4,8 +4,8 @@ use Rattle.chains.proofs.Keeping.{keeps_from}
 use Rattle.chains.proofs.Answering.{told_new, slots_front, slots_spare, slots_room, slots_lawful}
 use Rattle.chains.proofs.model.Chain.new.Goals as goal
 
-pub invariant-of-result : goal.invariant-of-result
-invariant-of-result c =
+pub invariant_of-result : goal.invariant_of-result
+invariant_of-result c =
     let xs = c.args.adders.now in
     let out = c.args.shift in
     let slots = c.padded.result in

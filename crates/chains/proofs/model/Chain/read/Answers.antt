@@ -3,8 +3,8 @@ use Rattle.chains.specs.Chains.{Judged, long, misshapen, judged}
 use Rattle.chains.proofs.Answering.{told_read, from_nine}
 use Rattle.chains.proofs.model.Chain.read.Goals as goal
 
-pub returns-then-line-gt-MOST-BYTES : goal.returns-then-line-gt-MOST-BYTES
-returns-then-line-gt-MOST-BYTES c = told_read (long (omega arith))
+pub returns-then-line-gt-MOST_BYTES : goal.returns-then-line-gt-MOST_BYTES
+returns-then-line-gt-MOST_BYTES c = told_read (long (omega arith))
 
 pub returns-in-Ok : goal.returns-in-Ok
 returns-in-Ok c =

@@ -9,8 +9,8 @@ use Rattle.rows.proofs.Chained.{chain_row, same_constant}
 use Rattle.rows.proofs.Keeping.{rules_from_keeps}
 use Rattle.rows.proofs.model.Row.from_chain.Goals as goal
 
-pub invariant-of-result : goal.invariant-of-result
-invariant-of-result c =
+pub invariant_of-result : goal.invariant_of-result
+invariant_of-result c =
     let d = c.args.chain.now in
     let xs = chain_adders d in
     let keeps = chain_keeps d in

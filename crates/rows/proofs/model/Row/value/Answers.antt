@@ -4,8 +4,8 @@ use Rattle.adders.proofs.Sounds as sounds
 use Rattle.rows.proofs.Answering.{row_keeps, value_high, told_none, told_value}
 use Rattle.rows.proofs.model.Row.value.Goals as goal
 
-pub offset-bounds-values-adder : goal.offset-bounds-values-adder
-offset-bounds-values-adder c = let h = value_high c.args.self.now c.args.adder c.in-Some.field-0 c.in-Some.ensures in omega arith
+pub offset_bounds-values-adder : goal.offset_bounds-values-adder
+offset_bounds-values-adder c = let h = value_high c.args.self.now c.args.adder c.in-Some.field-0 c.in-Some.ensures in omega arith
 
 pub bounds-values-adder : goal.bounds-values-adder
 bounds-values-adder c = value_high c.args.self.now c.args.adder c.in-Some.field-0 c.in-Some.ensures
