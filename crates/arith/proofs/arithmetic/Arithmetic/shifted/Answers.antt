@@ -15,7 +15,7 @@ loop-turn-preserved g c =
 pub returns : goal.returns
 returns g c =
     let m = g.Self.Arithmetic in
-    let all : c.loop-turn.-turn ≡ c.args.shift = omega arith in
+    let all : c.loop-turn._turn ≡ c.args.shift = omega arith in
     record {
       meaning =
           c.loop-turn.invariant.0

@@ -19,7 +19,7 @@ overflow_mul-number g c =
 
 pub loop-turn-preserved : goal.loop-turn-preserved
 loop-turn-preserved g c =
-    doubled_again c.from-m.result _ (c.loop-turn.-turn - c.min-first.result) (c.loop-turn.-turn + 1 - c.min-first.result) c.loop-turn.number (omega (arith, c.loop-turn.auto.-turn)) c.loop-turn.invariant
+    doubled_again c.from-m.result _ (c.loop-turn._turn - c.min-first.result) (c.loop-turn._turn + 1 - c.min-first.result) c.loop-turn.number (omega (arith, c.loop-turn.auto._turn)) c.loop-turn.invariant
 
 pub overflow_cast-number-2 : goal.overflow_cast-number-2
 overflow_cast-number-2 g c =
@@ -32,7 +32,7 @@ returns g c =
     let b = g.K.Modulus.bounds in
     let d : c.from-m.result ≡ g.K.Modulus.modulus = c.from-m.ensures ∙ c.divisor.ensures in
     let f : ℕ = c.min-first.result in
-    let all : c.loop-turn.-turn ≡ c.args.shift = omega (arith, c.loop-turn.auto.-turn, c.loop-turn.auto.-turn-end) in
+    let all : c.loop-turn._turn ≡ c.args.shift = omega (arith, c.loop-turn.auto._turn, c.loop-turn.auto._turn-end) in
     let same : c.from.result ≡ c.args.self.number = c.from.ensures in
     let whole = shl_whole c.from.result 32 f 64 (omega arith) (omega arith) in
     record {
