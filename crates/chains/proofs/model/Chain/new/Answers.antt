@@ -11,7 +11,12 @@ invariant_of-result c =
     let slots = c.padded.result in
     let h = c.in-Ok.ensures.0 in
     let few = (keeps_from xs out h).few in
-    (slots_room xs slots out c.padded.ensures few, (few, (slots_spare xs slots out c.padded.ensures, (slots_lawful xs slots out c.padded.ensures h, tt))))
+    record {
+      room = slots_room xs slots out c.padded.ensures few;
+      few = few;
+      spare = slots_spare xs slots out c.padded.ensures;
+      lawful = slots_lawful xs slots out c.padded.ensures h;
+    }
 
 pub returns-in-Ok : goal.returns-in-Ok
 returns-in-Ok c = told_new (kept c.in-Ok.ensures.0 (slots_front c.args.adders.now c.padded.result c.args.shift c.padded.ensures) refl)

@@ -14,14 +14,13 @@ invariant_of-result c =
     let d = c.args.chain.now in
     let xs = chain_adders d in
     let keeps = chain_keeps d in
-    let out : Operand = record { source = length c.adders.result.now; shift = c.shift.result } in (
-      ap length c.slots.ensures ∙ eight xs keeps.few,
-      (
-        ap (λ ys. is_some (first_broken (row_rules ys out))) c.slots.ensures
-            ∙ ap is_some (rules_from_keeps _ out (chain_row xs d.shift keeps out (ap length c.adders.ensures.adders) c.shift.ensures)),
-        tt,
-      ),
-    )
+    let out : Operand = record { source = length c.adders.result.now; shift = c.shift.result } in
+    record {
+      room = ap length c.slots.ensures ∙ eight xs keeps.few;
+      lawful =
+          ap (λ ys. is_some (first_broken (row_rules ys out))) c.slots.ensures
+          ∙ ap is_some (rules_from_keeps _ out (chain_row xs d.shift keeps out (ap length c.adders.ensures.adders) c.shift.ensures));
+    }
 
 pub returns : goal.returns
 returns c =
