@@ -17,5 +17,5 @@ pub fn frames_multiply_by_halves<L: Arithmetic, R: Arithmetic>()
 
 // In every arithmetic, s doublings of a sample are 2^s copies of it.
 pub fn doublings_multiply<X: Arithmetic>()
-    ensures { (s : ℕ) (x : X) → doubled X.Arithmetic.operations s (X.Arithmetic.means x) ≡ times X.Arithmetic.operations (2 ^ s) (X.Arithmetic.means x) }
+    ensures { (s : ℕ) (x : X) → doubled X.operations s (X.means x) ≡ times X.operations (2 ^ s) (X.means x) }
 {}

@@ -14,8 +14,8 @@ use rows::Row;
 // An operand over the results so far.
 fn operand<X: Arithmetic>(results: &Results<X>, operand: Operand) -> X
     requires { operand.source < 9 }
-    ensures meaning { (d : X) → means result ≡ operand_meaning operations (λ k. means (slice_index_or (listed results.now) k d)) operand }
-    ensures settled { Settled result }
+    ensures meaning { (d : X) → X.means result ≡ operand_meaning X.operations (λ k. X.means (slice_index_or (listed results.now) k d)) operand }
+    ensures settled { X.Settled result }
 {
     results.at(operand.source as usize).shifted(operand.shift)
 }
@@ -23,7 +23,7 @@ fn operand<X: Arithmetic>(results: &Results<X>, operand: Operand) -> X
 // What an adder makes of the results so far, the neutral sample where it is absent.
 fn slot_result<X: Arithmetic>(results: &Results<X>, slot: Option<Adder>) -> X
     requires { Within slot }
-    ensures { (d : X) → means result ≡ slot_meaning operations (λ k. means (slice_index_or (listed results.now) k d)) slot }
+    ensures { (d : X) → X.means result ≡ slot_meaning X.operations (λ k. X.means (slice_index_or (listed results.now) k d)) slot }
 {
     match slot {
         None => X::neutral(),
@@ -40,8 +40,8 @@ fn slot_result<X: Arithmetic>(results: &Results<X>, slot: Option<Adder>) -> X
 
 // The row's multiple of a sample.
 pub fn run<X: Arithmetic>(row: &Row, sample: X) -> X
-    ensures meaning { means result ≡ times operations (constant_of row.now) (means sample) }
-    ensures product { Product (constant_of row.now) sample result }
+    ensures meaning { X.means result ≡ times X.operations (constant_of row.now) (X.means sample) }
+    ensures product { X.Product (constant_of row.now) sample result }
 {
     let slots = row.slots();
     let mut results = Results::new(sample);
@@ -54,7 +54,7 @@ pub fn run<X: Arithmetic>(row: &Row, sample: X) -> X
 
 // The row's multiple of each sample, at its place of the output.
 pub fn run_all<X: Arithmetic>(row: &Row, input: &[X], output: &mut [X]) -> Result<(), Refusal>
-    ensures { Ran means operations Product (constant_of row.now) input.now output.old output.new result }
+    ensures { Ran X.means X.operations X.Product (constant_of row.now) input.now output.old output.new result }
 {
     if input.len() != output.len() {
         return Err(Refusal::LengthsDiffer);

@@ -3,8 +3,8 @@ use Rattle.std.proofs.lemmas.List.{get_or_past}
 use Rattle.std.proofs.lemmas.Bool.{cond-true, le-leb}
 use Rattle.rows.proofs.model.Row.adder.Goals as goal
 
-pub returns-in_default·2 : goal.returns-in_default·2
-returns-in_default·2 c =
+pub returns-in_default-2 : goal.returns-in_default-2
+returns-in_default-2 c =
     let r = c.args.self.now in
     let j = c.args.number in
     let room = r.room in
