@@ -20,7 +20,7 @@ pub struct Multiples {
 
 // The residue of a whole number.
 fn residue_of<K: Modulus>(sample: i64) -> Residue<K>
-    ensures { result.number ≡ reduced_by modulus sample }
+    ensures { result.number ≡ reduced_by K.modulus sample }
 {
     Residue::new(sample.rem_euclid(i64::from(K::divisor())) as u32)
 }

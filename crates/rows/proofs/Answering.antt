@@ -1,5 +1,5 @@
 -- What making a row answers, that it answers nothing else, and what the calls on a row tell.
-use Rattle.std.proofs.Common.{◌≡◌, ℕ, suc, ◌-◌, ◌<◌, ◌≤◌, true, false, cond, leb, List, get_or, is_some, is_ok, Some, None, Ok, Decides, Result, sym, refl, ap, ◌∙◌, subst, ⊎_elim, arith}
+use Rattle.std.proofs.Common.{◌≡◌, ℕ, suc, ◌-◌, ◌<◌, ◌≤◌, cond, leb, List, get_or, is_some, is_ok, Some, None, Ok, Decides, Result, sym, refl, ap, ◌∙◌, subst, ⊎_elim, arith}
 use denote.Struct.Record.{values_one}
 use Rattle.std.proofs.lemmas.Bool.{cases_lt, cond-true, cond-false, le-leb, lt-leb, false≢true}
 use Rattle.std.specs.contracts.option.Option as option
