@@ -1,6 +1,6 @@
 -- The worked lines: what each says is computed, and the rules are tried on it.
 use Rattle.std.proofs.Common.{◌≡◌, ℕ, ◌-◌, ◌≤◌, Bool, true, false, cond, leb, List, [], ◌∷◌, ◌++◌, map, length, replicate, Some, None, Option, sym, refl, subst}
-use Rattle.std.specs.List.{AllByRecursion as All}
+use Rattle.std.specs.List.{AllByRecursion}
 use Rattle.std.proofs.lemmas.Bool.{leb-true}
 use Rattle.adders.specs.declared.wiring.Adder.{Adder}
 use Rattle.adders.specs.declared.refusals.Refusal.{Refusal}
@@ -64,9 +64,9 @@ computed_right bs a g = by_length (leb (length bs) 200) refl g
     by_length false e h = absurd (some_none (sym h))
 
 -- the answers are computed over the whole collection at once
-stand : (cs : List Case) → map (λ c. computed c.line) cs ≡ map (λ c. Some c.answer) cs → All Stands cs
+stand : (cs : List Case) → map (λ c. computed c.line) cs ≡ map (λ c. Some c.answer) cs → AllByRecursion Stands cs
 stand [] e = tt
 stand (c ∷ cs) e = (computed_right c.line c.answer (cc e), stand cs (cc e))
 
-pub all_stand : All Stands worked
+pub all_stand : AllByRecursion Stands worked
 all_stand = stand worked refl

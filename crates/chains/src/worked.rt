@@ -1,8 +1,8 @@
 // Worked chain lines, held against the definitions.
-ghost use Rattle.std.specs.List.{AllByRecursion as All};
+ghost use Rattle.std.specs.List.{AllByRecursion};
 ghost use Rattle.chains.specs.Examples.{worked, Stands};
 
 // Each worked line has the answer that stands beside it.
 pub fn worked_lines_stand()
-    ensures { All Stands worked }
+    ensures { AllByRecursion Stands worked }
 {}

@@ -1,7 +1,7 @@
 -- The worked samples: what each line says is computed, and so is each product.
 use Rattle.std.proofs.Common.{◌≡◌, ℕ, ℤ, pos, ◌*ℤ◌, Some, refl, arith}
 use Rattle.std.proofs.lemmas.Int.{ints}
-use Rattle.std.specs.List.{AllByRecursion as All}
+use Rattle.std.specs.List.{AllByRecursion}
 use Rattle.arith.specs.Words.{InWord, WordProduct}
 use Rattle.chains.specs.Examples.{constant}
 use Rattle.chains.proofs.Examples.{computed, computed_right}
@@ -14,7 +14,7 @@ stands c n e g = record { number = n; reads = computed_right c.line (constant n)
 whole : (n : ℕ) (x r : ℤ) → InWord r → pos n *ℤ x ≡ r → WordProduct n x r
 whole n x r h e = record { held = h; wraps = pos 0; congruent = omega (arith, ints) }
 
-pub all_stand : All Stands worked
+pub all_stand : AllByRecursion Stands worked
 all_stand = (
   stands _ 45 refl (whole 45 _ _ (record { least = omega (arith, ints); most = omega (arith, ints) }) refl),
   (

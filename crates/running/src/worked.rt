@@ -1,8 +1,8 @@
 // Worked samples, held against the definitions.
-ghost use Rattle.std.specs.List.{AllByRecursion as All};
+ghost use Rattle.std.specs.List.{AllByRecursion};
 ghost use Rattle.running.specs.Examples.{worked, Stands};
 
 // Each worked sample has the product that stands beside it.
 pub fn worked_samples_stand()
-    ensures { All Stands worked }
+    ensures { AllByRecursion Stands worked }
 {}
