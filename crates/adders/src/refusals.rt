@@ -26,10 +26,8 @@ pub enum Refusal {
     SourceNotLower(usize),
     // an operand or the value of this adder, or of the output for 0, leaves 1 to 2,147,483,647
     ValueOutOfRange(usize),
-    // no later adder reads this one, and it is not the last
+    // no later adder reads this one, and it is not the last; or this adder of a row is empty though the output reads it, directly or through others, or filled though it does not
     AdderUnread(usize),
-    // this adder of a row is empty though the output reads it, directly or through others, or filled though it does not
-    AdderNotAsRead(usize),
     // a select code above 15
     CodeAboveFifteen,
     // a select code that has a row already
@@ -103,7 +101,6 @@ impl Refusal {
             Refusal::SourceNotLower(_) => 14,
             Refusal::ValueOutOfRange(_) => 15,
             Refusal::AdderUnread(_) => 16,
-            Refusal::AdderNotAsRead(_) => 16,
             Refusal::CodeAboveFifteen => 20,
             Refusal::CodeLive => 21,
             Refusal::BlockTooSmall => 22,
@@ -137,7 +134,6 @@ impl Refusal {
             Refusal::SourceNotLower(adder) => adder,
             Refusal::ValueOutOfRange(adder) => adder,
             Refusal::AdderUnread(adder) => adder,
-            Refusal::AdderNotAsRead(adder) => adder,
             Refusal::BufferTooShort(length) => length,
             Refusal::SheetForm(line) => line,
             Refusal::SheetLimit(line) => line,

@@ -4,7 +4,7 @@ use mathlib.Core.Bool.{beq}
 use Rattle.std.proofs.lemmas.List.{at_drop_more, at_drop_all, length-set, get_or-set_same, get_or-set_other, get_or-replicate}
 use Rattle.std.proofs.lemmas.Bool.{cases_eq, eq-eqb, ne_eqb, or_right, cond-true, cond-false, not-true, not-false}
 use Rattle.adders.specs.declared.wiring.Adder.{Adder}
-use Rattle.adders.specs.declared.refusals.Refusal.TheVariants.{AdderNotAsRead}
+use Rattle.adders.specs.declared.refusals.Refusal.TheVariants.{AdderUnread}
 use Rattle.adders.specs.Values.{Slots}
 use Rattle.adders.specs.Rules.{first_broken}
 use Rattle.adders.proofs.Broken.{otherwise, broken_append}
@@ -74,12 +74,12 @@ module _ (xs : Slots) (source p q : ℕ) (up : p ≡ q + 1) (room : q < length x
 
 -- the rules of use from the slot at place i on, where b says whether it is filled and c whether it is read
 module _ (xs : Slots) (source i : ℕ) (h : i < length xs) (b c : Bool) (filled : b ≡ is_some (get_or xs i None)) (is : c ≡ is_read 1 xs source (i + 1)) where
-  use_split : first_broken (use_rules xs source (i + 1) (drop i xs)) ≡ cond (beq b c) (first_broken (use_rules xs source (i + 1 + 1) (drop (i + 1) xs))) (Some (AdderNotAsRead (i + 1)))
+  use_split : first_broken (use_rules xs source (i + 1) (drop i xs)) ≡ cond (beq b c) (first_broken (use_rules xs source (i + 1 + 1) (drop (i + 1) xs))) (Some (AdderUnread (i + 1)))
   use_split =
       at_drop_more (λ ys. first_broken (use_rules xs source (i + 1) ys)) xs i None h
-      ∙ (λ k. cond (beq (sym filled k) (sym is k)) (first_broken (use_rules xs source (i + 1 + 1) (drop (i + 1) xs))) (Some (AdderNotAsRead (i + 1))))
+      ∙ (λ k. cond (beq (sym filled k) (sym is k)) (first_broken (use_rules xs source (i + 1 + 1) (drop (i + 1) xs))) (Some (AdderUnread (i + 1))))
 
-  pub use_stop : not (beq b c) ≡ true → first_broken (use_rules xs source (i + 1) (drop i xs)) ≡ Some (AdderNotAsRead (i + 1))
+  pub use_stop : not (beq b c) ≡ true → first_broken (use_rules xs source (i + 1) (drop i xs)) ≡ Some (AdderUnread (i + 1))
   use_stop e = use_split ∙ cond-false (beq b c) _ _ (not-true (beq b c) e)
 
   pub use_more : not (beq b c) ≡ false → first_broken (use_rules xs source (i + 1) (drop i xs)) ≡ first_broken (use_rules xs source (i + 1 + 1) (drop (i + 1) xs))

@@ -57,7 +57,7 @@ fn first_misused(slots: [Option<Adder>; 8], source: u8) -> Option<Refusal>
     let read = sources_read(slots, source);
     for (i, slot) in slots.iter().enumerate() {
         if slot.is_some() != read[i + 1] {
-            return Some(Refusal::AdderNotAsRead(i + 1));
+            return Some(Refusal::AdderUnread(i + 1));
         }
     }
     None
