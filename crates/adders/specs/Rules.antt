@@ -25,10 +25,6 @@ abbrev pub Tried : {A : Type 0} → List Rule → A → Result A Refusal → Typ
 Tried rs v (Ok x) = (first_broken rs ≡ None) × (x ≡ v)
 Tried rs v (Err e) = first_broken rs ≡ Some e
 
--- r is the only answer of which P holds
-abbrev pub Only : {A : Type 0} → (A → Type 0) → A → Type 0
-Only {A} P r = (s : A) → P s → s ≡ r
-
 -- every operand, adder and output value lies from 1 to 2,147,483,647
 abbrev pub in_range : ℕ → Bool
 in_range v = nat_le 1 v && nat_le v 2147483647

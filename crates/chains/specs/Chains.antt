@@ -43,10 +43,6 @@ pub data Reading (bs : List ℕ) : Result Chain Refusal → Type 0 where
   misshapen : {i : ℕ} → length bs ≤ 200 → BrokenAt bs i → Reading bs (Err (BrokenForm i))
   judged : {xs : List Adder} {out : ℕ} {r : Result Chain Refusal} → length bs ≤ 200 → Line xs out bs → Judged xs out r → Reading bs r
 
--- r is the only answer of which P holds
-abbrev pub Only : (Result Chain Refusal → Type 0) → Result Chain Refusal → Type 0
-Only P r = (s : Result Chain Refusal) → P s → s ≡ r
-
 pub record Accepted (bs : List ℕ) : Type 0 where
   pub short : length bs ≤ 200
   pub adders : List Adder

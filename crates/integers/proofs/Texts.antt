@@ -9,8 +9,8 @@ use Rattle.std.proofs.lemmas.Bool.{and_parts, and_from, le-leb, leb-true, leb-fa
 use Rattle.std.specs.Int.{IsInRange}
 use Rattle.std.specs.Fmt.{signed_decimal}
 use Rattle.arith.specs.Words.{InWord}
-use Rattle.integers.proofs.Breaks.{breaks_once}
-use Rattle.integers.specs.Breaking.{Viable, BrokenAt}
+use Rattle.forms.proofs.Breaks.{breaks_once}
+use Rattle.forms.specs.Breaking.{Viable, BrokenAt}
 use Rattle.integers.specs.declared.scan.Part.{Part}
 use Rattle.integers.specs.declared.scan.Part.TheVariants.{Nothing, Minus, Zero, Above, Below}
 use Rattle.integers.specs.Form.{Integer, Form, Reading}

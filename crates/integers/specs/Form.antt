@@ -4,7 +4,7 @@
 use Rattle.std.specs.Prelude.{◌≡◌, ℕ, List, ℤ, Ok, Err, Result}
 use Rattle.std.specs.Fmt.{signed_decimal}
 use Rattle.arith.specs.Words.{InWord}
-use Rattle.integers.specs.Breaking.{BrokenAt}
+use Rattle.forms.specs.Breaking.{BrokenAt}
 
 pub record Integer (z : ℤ) (bs : List ℕ) : Type 0 where
   pub held : InWord z

@@ -1,3 +1,2 @@
-pub mod Breaking
 pub mod Form
 pub mod Scan

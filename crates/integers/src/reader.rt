@@ -1,5 +1,5 @@
 // Reads a line that is a whole number.
-ghost use Rattle.adders.specs.Rules.{Only};
+ghost use Rattle.forms.specs.Answers.{Only};
 ghost use Rattle.integers.specs.Form.{Reading};
 
 use crate::scan::Part;

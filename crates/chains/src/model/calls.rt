@@ -3,7 +3,8 @@ ghost use Rattle.std.specs.Prelude.{◌≡◌, is_ok, IfOk, Decides};
 ghost use Rattle.lines.specs.Form.{line_text};
 ghost use Rattle.adders.specs.Rules.{InRange};
 ghost use Rattle.chains.specs.Rules.{Keeps, eight_slots};
-ghost use Rattle.chains.specs.Chains.{chain_adders, chain_constant, adder_value_at, ShiftAndAdd, Judged, Reading, Only, Accepted};
+ghost use Rattle.chains.specs.Chains.{chain_adders, chain_constant, adder_value_at, ShiftAndAdd, Judged, Reading, Accepted};
+ghost use Rattle.forms.specs.Answers.{Only};
 
 use super::Chain;
 use crate::rules::{constant_of, padded, slots_of, values_of};

@@ -1,6 +1,7 @@
 // The calls on a row.
 ghost use Rattle.std.specs.Prelude.{◌≡◌, IfSome, is_ok, Decides};
-ghost use Rattle.adders.specs.Rules.{InRange, Only};
+ghost use Rattle.adders.specs.Rules.{InRange};
+ghost use Rattle.forms.specs.Answers.{Only};
 ghost use Rattle.chains.specs.Chains.{chain_constant};
 ghost use Rattle.rows.specs.Rules.{KeepsRow};
 ghost use Rattle.rows.specs.Rows.{adder_at, constant_of, row_value_at, ShiftAndAdd, RowJudged, RowOf};

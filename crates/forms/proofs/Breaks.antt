@@ -2,7 +2,7 @@
 use Rattle.std.proofs.Common.{◌≡◌, ℕ, ◌+◌, ◌<◌, ◌≤◌, List, ◌++◌, take, drop, sym, ap, ◌∙◌, subst, ⊎_elim, append_assoc, arith}
 use Rattle.std.proofs.lemmas.List.{take-append-drop, take-take}
 use Rattle.std.proofs.lemmas.Bool.{cases_order}
-use Rattle.integers.specs.Breaking.{Viable, BrokenAt}
+use Rattle.forms.specs.Breaking.{Viable, BrokenAt}
 
 module _ (F : List ℕ → Type 0) where
   -- a front of what some bytes of the form begin with is one too
