@@ -1,5 +1,6 @@
 // A list of adders in place, with room for a fixed number of them.
-ghost use Rattle.std.specs.Prelude.{◌≡◌, ◌-◌, ◌<◌, ◌≤◌, ◌↔◌, [], ◌∷◌, ◌++◌, length, map, replicate, Some, None, Ok, Err, IsSome, IfSome, slice_get};
+ghost use Rattle.std.specs.Prelude.{◌≡◌, ◌-◌, ◌<◌, ◌≤◌, [], ◌∷◌, ◌++◌, length, map, replicate, Some, None, Ok, Err, slice_get};
+ghost use Rattle.std.specs.Option.{SomeIff};
 
 use crate::wiring::Adder;
 use std::marker::Model;
@@ -40,8 +41,7 @@ impl<const N: usize> AdderList<N> {
 
     // These adders, if there is room for them.
     pub fn from_slice(adders: &[Adder]) -> Option<AdderList<N>>
-        ensures fits { IsSome result ↔ (length adders.now ≤ N) }
-        ensures same { IfSome result (λ l. l ≡ adders.now) }
+        ensures { SomeIff result (length adders.now ≤ N) adders.now }
     {
         if adders.len() > N {
             return None;
@@ -84,7 +84,8 @@ impl<const N: usize> AdderList<N> {
 
     // Each adder in its slot, the others empty.
     pub fn slots(&self) -> [Option<Adder>; N]
-        ensures { result ≡ map Some self.now ++ replicate (N - length self.now) None }
+        ensures slots { result ≡ map Some self.now ++ replicate (N - length self.now) None }
+        ensures few { length self.now ≤ N }
     {
         let adders = self.as_slice();
         std::array::from_fn(

@@ -5,8 +5,8 @@ use Rattle.std.proofs.lemmas.List.{same_lists}
 use Rattle.adders.proofs.Places.{places, padded_at, length_padded}
 use Rattle.adders.proofs.list.AdderList.slots.Goals as goal
 
-pub returns : goal.returns
-returns g c =
+pub returns-clause-slots : goal.returns-clause-slots
+returns-clause-slots g c =
     let made = c.from_fn.ensures.items in
     let xs = c.args.self.now in
     let few = c.as_slice-adders.ensures.few in
