@@ -3,7 +3,7 @@
 --   row_value_at         what a sample of 1 becomes at it
 --   RowJudged xs out r   r is what making a row of the slots xs and the output operand out answers
 --   RowOf                the row that a chain is
-use Rattle.std.specs.Prelude.{◌≡◌, ℕ, ◌-◌, ◌*◌, ◌^◌, cond, is_some, Some, None, Ok, Err, Option, Result, nat_le, slice_index_or}
+use Rattle.std.specs.Prelude.{◌≡◌, ℕ, ◌-◌, ◌*◌, ◌^◌, cond, length, is_some, Some, None, Ok, Err, Option, Result, nat_le, slice_index_or}
 use Rattle.adders.specs.declared.wiring.Adder.{Adder}
 use Rattle.adders.specs.declared.wiring.Operand.{Operand}
 use Rattle.adders.specs.declared.refusals.Refusal.{Refusal}
@@ -42,5 +42,5 @@ pub data RowJudged (xs : Slots) (out : Operand) : Result Row Refusal → Type 0 
 -- each adder of the chain in its slot, and the output reads the last one, or the sample where there is none, under the chain's output shift
 pub record RowOf (c : Chain) (r : Row) : Type 0 where
   pub slots : r.slots ≡ eight_slots (chain_adders c)
-  pub source : r.output.source ≡ c.len
+  pub source : r.output.source ≡ length (chain_adders c)
   pub shift : r.output.shift ≡ c.shift
