@@ -41,7 +41,7 @@ impl Modulus for Mod65536 {
 // The row of a chain line.
 fn row(line: &[u8]) -> Option<Row> {
     match Chain::read(line) {
-        Ok(chain) => Some(Row::from_chain(&chain)),
+        Ok(chain) => Some(Row::from(chain)),
         Err(_) => None,
     }
 }
