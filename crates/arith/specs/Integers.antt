@@ -12,8 +12,7 @@ use Rattle.arith.specs.Moduli.{times_number}
 
 wrapped_bits : (z : ℤ) → int_wrap w64 z ≡ to_z w64 (word_bits z)
 unfolding int_wrap
-wrapped_bits (pos n) = refl
-wrapped_bits (negsuc n) = refl
+wrapped_bits z = refl
 
 -- the bits of a word that was made from bits
 pub bits_again : (m : ℕ) → m < 2 ^ 64 → word_bits (to_z w64 m) ≡ m

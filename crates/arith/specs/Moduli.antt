@@ -14,6 +14,10 @@ same_below {n} x y e =
     ap (λ (p : (k : ℕ) × (k < n)). let b : Below n = record { number = p.0; within = p.1 } in b)
     (Fin.val_path {i = (x.number, x.within)} {j = (y.number, y.within)} e)
 
+-- numbers of the same remainder mean the same
+pub same_remainder : (n : ℕ) (h : 0 < n) (k l : ℕ) → k % n ≡ l % n → remainder n h k ≡ remainder n h l
+same_remainder n h k l = same_below (remainder n h k) (remainder n h l)
+
 pub remainder_laws : (n : ℕ) (h : 0 < n) → Laws (remainders n h)
 remainder_laws n h = record {
   brackets = λ x y z. same_below _ _ (

@@ -50,12 +50,12 @@ impl Modulus for Mod257 {
 
 // Any number, which means its remainder by the modulus of its kind. Every operation answers a remainder.
 #[derive_where(Clone, Copy)]
-pub struct Residue<K: Modulus> {
+pub struct Residue<K> {
     pub number: u32,
     pub kind: PhantomData<K>,
 }
 
-impl<K: Modulus> Residue<K> {
+impl<K> Residue<K> {
     // A number as it stands.
     pub fn new(number: u32) -> Residue<K>
         ensures { result.number ≡ number }

@@ -33,17 +33,11 @@ fn main(rt: HostRuntime) -> io::Result<()> {
     };
     let row = Row::from_chain(&chain);
     let mut harmonics = PHASES;
-    match run_all(&row, &PHASES, &mut harmonics) {
-        Ok(()) => {}
-        Err(refusal) => {
-            let number = refusal.number();
-            return println!(rt; "fault={number}");
-        }
+    if let Err(refusal) = run_all(&row, &PHASES, &mut harmonics) {
+        return println!(rt; "fault={}", refusal.number());
     }
-    for (phase, harmonic) in PHASES.iter().zip(harmonics.iter()) {
-        let from = phase.steps;
-        let to = harmonic.steps;
-        println!(rt; "{from} {to}")?;
+    for (phase, harmonic) in PHASES.iter().zip(&harmonics) {
+        println!(rt; "{} {}", phase.steps, harmonic.steps)?;
     }
     Ok(())
 }
