@@ -4,12 +4,12 @@ use Rattle.std.proofs.Math.Nat.{mod-mod}
 use Rattle.std.proofs.lemmas.Nat.{mul-mod_first, mul-mod_second, shl_whole}
 use Rattle.arith.specs.Operations.{doubled}
 use Rattle.arith.specs.Times.{twice}
-use Rattle.arith.specs.Moduli.{same_below, doubled_number}
+use Rattle.arith.specs.Moduli.{same_below, same_remainder, doubled_number}
 use Rattle.arith.specs.Remainders.{Modular, remainder, residue, residues, modular_positive}
 
 -- a remainder means what was reduced
 pub residue_reduced : {n : ℕ} (b : Modular n) (k r : ℕ) → r ≡ k % n → residue b r ≡ remainder n (modular_positive b) k
-residue_reduced {n} b k r e = same_below _ _ (ap (λ i. i % n) e ∙ mod-mod k n)
+residue_reduced {n} b k r e = same_remainder n (modular_positive b) r k (ap (λ i. i % n) e ∙ mod-mod k n)
 
 -- a product with a power of two is so many doublings
 pub residue_shifted : {n : ℕ} (b : Modular n) (x s r : ℕ) → r ≡ (x * 2 ^ s) % n → residue b r ≡ doubled (residues b) s (residue b x)
@@ -28,4 +28,5 @@ doubled_again m x t number e =
     ∙ mul-mod_second 2 (x * 2 ^ t) m
     ∙ ap (λ i. i % m) (rw add-one (let both = twice x t in omega arith))
 
+-- what the methods of residues cite
 pub ruleset residues_compute = (residue_reduced, residue_shifted, shifted_whole, doubled_again)
