@@ -6,7 +6,7 @@ mod report;
 use adders::Refusal;
 use chains::Chain;
 use integers::read_integer;
-use report::{apart, fault_text, framed, sample_text};
+use report::{FaultReport, SampleReport};
 use rows::Row;
 use std::io;
 use std::io::{BufRead, BufReader};
@@ -23,22 +23,28 @@ fn main(rt: HostRuntime) -> io::Result<()> {
                 Ok(chain) => {
                     let constant = chain.constant();
                     println!(rt; "constant={constant}")?;
-                    row = Some(Row::from_chain(&chain));
+                    row = Some(Row::from(chain));
                 }
-                Err(refusal) => return rt.println(fault_text(heap, refusal, number)?),
+                Err(refusal) => return rt.println(FaultReport {
+                    refusal,
+                    line: number,
+                }),
             },
             Some(row) => match read_integer(line.as_slice()) {
-                Ok(sample) => {
-                    let text = sample_text(heap, apart(&row, sample), framed(&row, sample))?;
-                    rt.println(text)?;
-                }
-                Err(place) => rt.println(fault_text(heap, Refusal::BrokenForm(place), number)?)?,
+                Ok(sample) => rt.println(SampleReport::new(&row, sample))?,
+                Err(place) => rt.println(FaultReport {
+                    refusal: Refusal::BrokenForm(place),
+                    line: number,
+                })?,
             },
         }
     }
     match row {
         Some(_) => Ok(()),
         // the chain line is missing
-        None => rt.println(fault_text(heap, Refusal::BrokenForm(0), 1)?),
+        None => rt.println(FaultReport {
+            refusal: Refusal::BrokenForm(0),
+            line: 1,
+        }),
     }
 }
