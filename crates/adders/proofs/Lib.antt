@@ -3,3 +3,4 @@ pub mod Broken
 pub mod Sounds
 pub mod Turns
 pub mod Padded
+pub mod Places

@@ -1,3 +1,4 @@
 pub mod Refusals
 pub mod Values
 pub mod Rules
+pub mod Lists

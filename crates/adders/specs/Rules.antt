@@ -33,19 +33,19 @@ in_range v = nat_le 1 v && nat_le v 2147483647
 abbrev pub shift_rule : ℕ → ℕ → Rule
 shift_rule shift place = rule (nat_le shift 30) (ShiftOutOfRange place)
 
+-- a reader takes the sources below a bound, and shifts up to 30
+abbrev pub reading_rules : ℕ → ℕ → Operand → List Rule
+reading_rules bound place o = rule (nat_lt o.source bound) (SourceNotLower place) ∷ shift_rule o.shift place ∷ []
+
 -- a source is lower than its reader
 abbrev pub operand_rules : List ℕ → Operand → List Rule
-operand_rules vs o = rule (nat_lt o.source (length vs)) (SourceNotLower (length vs)) ∷ shift_rule o.shift (length vs) ∷ []
+operand_rules vs o = reading_rules (length vs) (length vs) o
 
 abbrev pub adder_rules : List ℕ → Adder → List Rule
 adder_rules vs a =
     operand_rules vs a.left
     ++ (operand_rules vs a.right
     ++ rule (in_range (operand_value vs a.left) && (in_range (operand_value vs a.right) && in_range (adder_value vs a))) (ValueOutOfRange (length vs)) ∷ [])
-
--- a reader takes the sources below a bound, and shifts up to 30
-abbrev pub reading_rules : ℕ → ℕ → Operand → List Rule
-reading_rules bound place o = rule (nat_lt o.source bound) (SourceNotLower place) ∷ shift_rule o.shift place ∷ []
 
 -- an adder reads what is lower than itself
 abbrev pub wiring_rules : ℕ → Adder → List Rule

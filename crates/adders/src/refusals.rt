@@ -1,9 +1,12 @@
 // Why a call is turned down: one type for the whole generator. Each case has a number and a place.
 ghost use Rattle.std.specs.Prelude.{◌≡◌};
 ghost use Rattle.adders.specs.Refusals.{refusal_entry, fault_entry};
+ghost use Rattle.adders.specs.declared.refusals.Refusal.TheVariants.{BrokenForm};
+
+use forms::FormError;
 
 // Which rule of the block a row of a wiring sheet breaks, with the adder's number, 0 for the output.
-#[derive(Clone, Copy, Debug)]
+#[derive(Clone, Copy, Debug, PartialEq, Eq)]
 pub enum RowFault {
     // the output reads an adder that is empty, or does not read one that is filled
     NotAsRead(usize),
@@ -12,7 +15,7 @@ pub enum RowFault {
 }
 
 // The lines of a sheet and the adders of a chain count from 1, the bytes of a line from 0.
-#[derive(Clone, Copy, Debug)]
+#[derive(Clone, Copy, Debug, PartialEq, Eq)]
 pub enum Refusal {
     // a chain line has more than 200 bytes
     LineTooLong,
@@ -82,8 +85,7 @@ impl RowFault {
         ensures { result ≡ (fault_entry self).place }
     {
         match self {
-            RowFault::NotAsRead(adder) => adder,
-            RowFault::OutOfRange(adder) => adder,
+            RowFault::NotAsRead(adder) | RowFault::OutOfRange(adder) => adder,
         }
     }
 }
@@ -94,8 +96,7 @@ impl Refusal {
         ensures { result ≡ (refusal_entry self).number }
     {
         match self {
-            Refusal::LineTooLong => 11,
-            Refusal::BrokenForm(_) => 11,
+            Refusal::LineTooLong | Refusal::BrokenForm(_) => 11,
             Refusal::TooManyAdders => 12,
             Refusal::ShiftOutOfRange(_) => 13,
             Refusal::SourceNotLower(_) => 14,
@@ -130,18 +131,26 @@ impl Refusal {
             Refusal::LineTooLong => 200,
             Refusal::TooManyAdders => 9,
             Refusal::BrokenForm(byte) => byte,
-            Refusal::ShiftOutOfRange(adder) => adder,
-            Refusal::SourceNotLower(adder) => adder,
-            Refusal::ValueOutOfRange(adder) => adder,
-            Refusal::AdderUnread(adder) => adder,
+            Refusal::ShiftOutOfRange(adder)
+            | Refusal::SourceNotLower(adder)
+            | Refusal::ValueOutOfRange(adder)
+            | Refusal::AdderUnread(adder) => adder,
             Refusal::BufferTooShort(length) => length,
-            Refusal::SheetForm(line) => line,
-            Refusal::SheetLimit(line) => line,
-            Refusal::InputRepeated(line) => line,
-            Refusal::InputAbsent(line) => line,
             Refusal::RowBroken(line, _) => line,
-            Refusal::InputUnselected(line) => line,
+            Refusal::SheetForm(line)
+            | Refusal::SheetLimit(line)
+            | Refusal::InputRepeated(line)
+            | Refusal::InputAbsent(line)
+            | Refusal::InputUnselected(line) => line,
             _ => 0,
         }
+    }
+}
+
+impl From<FormError> for Refusal {
+    ghost from_gives = { λ e r. r ≡ BrokenForm e.place };
+
+    fn from(error: FormError) -> Refusal {
+        Refusal::BrokenForm(error.place)
     }
 }

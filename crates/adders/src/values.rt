@@ -1,5 +1,5 @@
 // The values of operands and adders for a sample of 1, with the rules that they keep.
-ghost use Rattle.std.specs.Prelude.{◌≡◌, ◌*◌, ◌^◌, ◌<◌, [], ◌∷◌, IfOk};
+ghost use Rattle.std.specs.Prelude.{◌≡◌, ◌*◌, ◌^◌, ◌<◌, ◌≤◌, [], ◌∷◌, IfOk};
 ghost use Rattle.adders.specs.Values.{operand_value, adder_value, slot_value, values_from, sample, reads, ValuesFollow};
 ghost use Rattle.adders.specs.Rules.{Tried, in_range, shift_rule, operand_rules, reading_rules, wiring_rules, adder_rules, slot_rules, rules_from, output_rules, RulesSay};
 
@@ -14,25 +14,34 @@ const MOST_VALUE: u64 = 2_147_483_647;
 fn in_range(value: u64) -> bool
     ensures { result ≡ in_range value }
 {
-    1 <= value && value <= MOST_VALUE
+    (1..=MOST_VALUE).contains(&value)
 }
 
-// A value under a left shift, or the refusal of the shift at `place`.
-fn shifted(value: u32, shift: u8, place: usize) -> Result<u64, Refusal>
-    ensures tried { Tried (shift_rule shift place ∷ []) (value * 2 ^ shift) result }
-    ensures small { IfOk result (λ v. v < 2 ^ 62) }
+// The rule of a shift, whose breach is told at `place`.
+fn shift_within(shift: u8, place: usize) -> Result<(), Refusal>
+    ensures { Tried (shift_rule shift place ∷ []) tt result }
 {
     if shift > MOST_SHIFT {
         return Err(Refusal::ShiftOutOfRange(place));
     }
-    Ok(u64::from(value) << shift)
+    Ok(())
+}
+
+// A value under a left shift.
+fn scaled(value: u32, shift: u8) -> u64
+    requires { shift ≤ 30 }
+    ensures value { result ≡ value * 2 ^ shift }
+    ensures small { result < 2 ^ 62 }
+{
+    u64::from(value) << shift
 }
 
 // The value of an output that reads `value`, or the first rule that it breaks.
 pub fn output_value(value: u32, shift: u8) -> Result<u32, Refusal>
     ensures { Tried (output_rules value shift) (value * 2 ^ shift) result }
 {
-    let output = shifted(value, shift, 0)?;
+    shift_within(shift, 0)?;
+    let output = scaled(value, shift);
     if in_range(output) {
         Ok(output as u32)
     } else {
@@ -48,10 +57,7 @@ impl Operand {
         if self.source as usize >= bound {
             return Err(Refusal::SourceNotLower(place));
         }
-        if self.shift > MOST_SHIFT {
-            return Err(Refusal::ShiftOutOfRange(place));
-        }
-        Ok(())
+        shift_within(self.shift, place)
     }
 
     // The operand's value at the adder that reads it, or the first rule that it breaks; `values` has one for each source below that adder.
@@ -59,11 +65,8 @@ impl Operand {
         ensures tried { Tried (operand_rules values.now self) (operand_value values.now self) result }
         ensures small { IfOk result (λ v. v < 2 ^ 62) }
     {
-        let source = self.source as usize;
-        if source >= values.len() {
-            return Err(Refusal::SourceNotLower(values.len()));
-        }
-        shifted(values[source], self.shift, values.len())
+        self.wired_below(values.len(), values.len())?;
+        Ok(scaled(values[self.source as usize], self.shift))
     }
 }
 
@@ -105,10 +108,7 @@ impl Adder {
 fn slot_value(slot: Option<Adder>, values: &[u32]) -> Result<u32, Refusal>
     ensures { Tried (slot_rules values.now slot) (slot_value values.now slot) result }
 {
-    match slot {
-        Some(adder) => adder.value(values),
-        None => Ok(0),
-    }
+    slot.map_or(Ok(0), |adder| adder.value(values))
 }
 
 // The values of the sample and of eight adders, of which some may be absent, or the first rule that an adder breaks.
@@ -117,8 +117,7 @@ pub fn slot_values(slots: [Option<Adder>; 8]) -> Result<[u32; 9], Refusal>
 {
     let mut at = [1u32; 9];
     for (i, slot) in slots.iter().enumerate() {
-        let value = slot_value(*slot, &at[0..i + 1])?;
-        at[i + 1] = value;
+        at[i + 1] = slot_value(*slot, &at[..=i])?;
     }
     Ok(at)
 }

@@ -1,6 +1,7 @@
 -- What reading or making a chain answers, and that it answers nothing else.
 use Rattle.std.proofs.Common.{◌≡◌, ℕ, ◌+◌, ◌-◌, ◌<◌, ◌≤◌, false, ◌&&◌, leb, List, ◌++◌, length, get_or, take, drop, replicate, is_some, is_ok, IfOk, Some, None, Ok, Err, Decides, Option, Result, sym, refl, ap, ◌∙◌, subst, subst₂, ⊎_elim, arith}
 use denote.Struct.Record.{values_one}
+use Rattle.std.specs.Coded.{coded_list}
 use Rattle.std.proofs.lemmas.List.{get_or-take, length-map, length-take-le, length-append, length-replicate, take-append-drop, take_all, take_at, drop_at}
 use Rattle.std.proofs.lemmas.Bool.{cases_lt, cond-true, and_from, le-leb, false≢true}
 use Rattle.adders.specs.contracts.wiring.Adder as adder
@@ -11,29 +12,21 @@ use Rattle.adders.specs.Values.{spare_adder, sample, value, values_from, wired}
 use Rattle.adders.specs.Rules.{first_broken}
 use Rattle.adders.proofs.Broken.{some_none, none_from}
 use Rattle.adders.proofs.Follow.{within, follow}
+use Rattle.adders.proofs.Sounds as sounds
+use Rattle.std.specs.Prelude.{IsOk}
 use Rattle.lines.proofs.Texts.{says_one}
 use Rattle.lines.specs.Form.{line_text}
 use Rattle.lines.proofs.Readings.{line_written, breaks_once}
 use Rattle.chains.specs.contracts.model.Chain.{struct, the_propositions}
 use Rattle.chains.specs.declared.model.Chain.{Chain}
-use Rattle.chains.specs.Rules.{chain_rules, Keeps}
+use Rattle.chains.specs.Rules.{Valued, chain_rules, Keeps}
 use Rattle.chains.specs.Chains.{chain_adders, adder_value_at, ShiftAndAdd, Judged, kept, broken, Reading, long, misshapen, judged, Accepted}
 use Rattle.chains.proofs.Judging.{chain_crowded}
 use Rattle.chains.proofs.Keeping.{keeps_from, rules_from_keeps}
 
 -- Two chains of the same adders and output shift are the same.
-
-pub len_is : (c : Chain) → c.len ≡ length (chain_adders c)
-len_is c = sym (length-take-le c.len c.adders (let r = c.room in let f = c.few in omega arith))
-
-slots_are : (c : Chain) → c.adders ≡ chain_adders c ++ replicate (8 - c.len) spare_adder
-slots_are c = sym (take-append-drop c.len c.adders) ∙ ap (λ l. chain_adders c ++ l) c.spare
-
 pub same_chain : (c d : Chain) → chain_adders c ≡ chain_adders d → c.shift ≡ d.shift → c ≡ d
-same_chain c d e f =
-    let lens : c.len ≡ d.len = len_is c ∙ ap length e ∙ sym (len_is d) in
-    let slots : c.adders ≡ d.adders = slots_are c ∙ (λ i. e i ++ replicate (8 - lens i) spare_adder) ∙ sym (slots_are d) in
-    values_one struct (the_propositions (adder.the_row).coded) c d (λ i. (slots i, (lens i, (f i, tt))))
+same_chain c d e f = values_one struct (the_propositions (coded_list (adder.the_row).coded)) c d (λ i. (e i, (f i, tt)))
 
 -- the rules that a chain keeps, as they are tried
 pub unbroken : (c : Chain) → first_broken (chain_rules (chain_adders c) c.shift) ≡ None
@@ -42,14 +35,19 @@ unbroken c = none_from _ c.lawful
 pub chain_keeps : (c : Chain) → Keeps (chain_adders c) c.shift
 chain_keeps c = keeps_from (chain_adders c) c.shift (unbroken c)
 
+-- the values of a chain are told, and its constant
+pub valued_ok : (c : Chain) (r : Result (List ℕ) Refusal) → Valued (chain_adders c) r → IsOk r
+valued_ok c (Ok at) v = refl
+valued_ok c (Err e) v = absurd (some_none (sym v ∙ (sounds.say (wired (chain_adders c))).1 (chain_keeps c).adders))
+
 -- an adder of the chain has a value
-value_there : (c : Chain) (j : ℕ) → 1 ≤ j → j ≤ c.len → adder_value_at c j ≡ Some (value (wired (chain_adders c)) j)
-value_there c j low high = cond-true (leb 1 j && leb j c.len) (Some (value (wired (chain_adders c)) j)) None (and_from (leb 1 j) (leb j c.len) (le-leb 1 j low) (le-leb j c.len high))
+value_there : (c : Chain) (j : ℕ) → 1 ≤ j → j ≤ length (chain_adders c) → adder_value_at c j ≡ Some (value (wired (chain_adders c)) j)
+value_there c j low high = cond-true (leb 1 j && leb j (length (chain_adders c))) (Some (value (wired (chain_adders c)) j)) None (and_from (leb 1 j) (leb j (length (chain_adders c))) (le-leb 1 j low) (le-leb j (length (chain_adders c)) high))
 
 -- the value of an adder, from the values at of all
-pub value_listed : (c : Chain) (xs : List Adder) (at : List ℕ) (j : ℕ) → xs ≡ chain_adders c → take (length xs + 1) at ≡ values_from sample (wired xs) → 1 ≤ j → j ≤ c.len → Some (get_or at j 0) ≡ adder_value_at c j
+pub value_listed : (c : Chain) (xs : List Adder) (at : List ℕ) (j : ℕ) → xs ≡ chain_adders c → take (length xs + 1) at ≡ values_from sample (wired xs) → 1 ≤ j → j ≤ length (chain_adders c) → Some (get_or at j 0) ≡ adder_value_at c j
 value_listed c xs at j e all low high =
-    let n = len_is c ∙ ap length (sym e) in
+    let n = ap length e in
     ap Some (sym (get_or-take (length xs + 1) at j 0 (omega arith)) ∙ ap (λ l. get_or l j 0) all ∙ ap (λ ys. value (wired ys) j) e) ∙ sym (value_there c j low high)
 
 -- the clauses of `Chain::value`
@@ -58,26 +56,11 @@ told_value c j v e = record {
   value = e;
   rule = λ k a up there.
       let xs = chain_adders c in
-      let n = len_is c in
       let m = length-map xs Some in
       let inside = within (wired xs) k a there in
       let s = (chain_keeps c).adders k a there in
       e ∙ value_there c j (omega arith) (omega arith) ∙ ap (λ i. Some (value (wired xs) i)) up ∙ ap Some (follow.adder_is (wired xs) k a there (omega (arith, s.left.lower)) (omega (arith, s.right.lower)));
 }
-
--- the slots that a chain of the adders xs has
-module _ (xs slots : List Adder) (out : ℕ) (e : slots ≡ xs ++ replicate (8 - length xs) spare_adder) where
-  pub slots_front : take (length xs) slots ≡ xs
-  slots_front = ap (take (length xs)) e ∙ take_at xs (replicate (8 - length xs) spare_adder) (length xs) refl
-
-  pub slots_spare : drop (length xs) slots ≡ replicate (8 - length xs) spare_adder
-  slots_spare = ap (drop (length xs)) e ∙ drop_at xs (replicate (8 - length xs) spare_adder) (length xs) refl
-
-  pub slots_room : length xs ≤ 8 → length slots ≡ 8
-  slots_room few = ap length e ∙ length-append xs (replicate (8 - length xs) spare_adder) ∙ (let n = length-replicate (8 - length xs) spare_adder in omega arith)
-
-  pub slots_lawful : first_broken (chain_rules xs out) ≡ None → is_some (first_broken (chain_rules (take (length xs) slots) out)) ≡ false
-  slots_lawful h = ap (λ ys. is_some (first_broken (chain_rules ys out))) slots_front ∙ ap is_some h
 
 -- Making a chain answers one thing.
 

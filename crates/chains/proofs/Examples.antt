@@ -1,5 +1,5 @@
 -- The worked lines: what each says is computed, and the rules are tried on it.
-use Rattle.std.proofs.Common.{◌≡◌, ℕ, ◌-◌, ◌≤◌, Bool, true, false, cond, leb, List, [], ◌∷◌, ◌++◌, map, length, replicate, Some, None, Option, sym, refl, subst}
+use Rattle.std.proofs.Common.{◌≡◌, ℕ, ◌-◌, ◌≤◌, Bool, true, false, cond, leb, List, [], ◌∷◌, ◌++◌, map, length, is_some, Some, None, Option, sym, refl, ap, subst}
 use Rattle.std.specs.List.{AllByRecursion}
 use Rattle.std.proofs.lemmas.Bool.{leb-true}
 use Rattle.adders.specs.declared.wiring.Adder.{Adder}
@@ -9,29 +9,16 @@ use Rattle.adders.specs.Rules.{first_broken}
 use Rattle.adders.proofs.Broken.{some_none}
 use Rattle.lines.specs.Form.{Line}
 use Rattle.lines.proofs.Computed.{says, says_right}
-use Rattle.adders.specs.Values.{spare_adder}
 use Rattle.chains.specs.declared.model.Chain.{Chain}
 use Rattle.chains.specs.Rules as rules
 use Rattle.chains.specs.Rules.{chain_rules}
 use Rattle.chains.specs.Chains.{kept, broken, judged}
 use Rattle.chains.specs.Examples.{Answer, constant, fault, Case, Answers, valued, refused, Stands, worked}
 use Rattle.chains.proofs.Keeping.{keeps_from}
-use Rattle.chains.proofs.Answering.{slots_front, slots_spare, slots_room, slots_lawful}
 
 -- the chain of adders that break no rule
 abbrev chain : (xs : List Adder) (out : ℕ) → first_broken (chain_rules xs out) ≡ None → Chain
-chain xs out h =
-    let slots = xs ++ replicate (8 - length xs) spare_adder in
-    let few = (keeps_from xs out h).few in
-    record {
-      adders = slots;
-      len = length xs;
-      shift = out;
-      room = slots_room xs slots out refl few;
-      few = few;
-      spare = slots_spare xs slots out refl;
-      lawful = slots_lawful xs slots out refl h;
-    }
+chain xs out h = record { adders = xs; shift = out; few = (keeps_from xs out h).few; lawful = ap is_some h }
 
 -- the answer to a line that says the adders xs and the output shift out
 abbrev pub answered : List Adder → ℕ → Option Refusal → Answer
@@ -47,9 +34,7 @@ abbrev pub computed : List ℕ → Option Answer
 computed bs = cond (leb (length bs) 200) (by_form (says bs)) None
 
 by_rules : (bs : List ℕ) → length bs ≤ 200 → (xs : List Adder) (out : ℕ) → Line xs out bs → (o : Option Refusal) → first_broken (chain_rules xs out) ≡ o → Answers bs (answered xs out o)
-by_rules bs short xs out l None h =
-    let front = slots_front xs (xs ++ replicate (8 - length xs) spare_adder) out refl in
-    subst (λ ys. Answers bs (constant (rules.constant ys out))) front (valued {c = chain xs out h} (judged short l (kept h front refl)))
+by_rules bs short xs out l None h = valued {c = chain xs out h} (judged short l (kept h refl refl))
 by_rules bs short xs out l (Some r) h = refused (judged short l (broken h))
 
 pub computed_right : (bs : List ℕ) (a : Answer) → computed bs ≡ Some a → Answers bs a

@@ -12,22 +12,6 @@ use Rattle.adders.proofs.Follow.{length_values}
 use Rattle.adders.proofs.Padded.{rules_padded, values_padded}
 use Rattle.chains.specs.Rules.{Valued, eight_slots, some_reads, read_rules_from, read_rules, chain_rules}
 
--- one adder more in its slot, as f puts it there, in front of spare slots
-module _ {B : Type 0} (f : Adder → B) (spare : B) (xs : List Adder) (slots : List B) (i : ℕ) (d : Adder) (room : i < length slots) where
-  pub filled_more : i < length xs → take i slots ≡ map f (take i xs) → take (i + 1) (set slots i (f (get_or xs i d))) ≡ map f (take (i + 1) xs)
-  filled_more h same = take_more_set slots i (f (get_or xs i d)) room ∙ ap (λ l. l ++ f (get_or xs i d) ∷ []) same ∙ sym (map_more f xs i d h)
-
-  pub spare_more : drop i slots ≡ replicate (8 - i) spare → drop (i + 1) (set slots i (f (get_or xs i d))) ≡ replicate (8 - (i + 1)) spare
-  spare_more same =
-      drop-set-lt (i + 1) slots i (f (get_or xs i d)) (omega arith) ∙ sym (drop-drop 1 i slots) ∙ ap (drop 1) same ∙ drop-replicate 1 (8 - i) spare ∙ ap (λ n. replicate n spare) (omega arith)
-
--- all of them
-pub filled_all : {B : Type 0} (f : Adder → B) (spare : B) (xs : List Adder) (slots : List B) (i : ℕ) → i ≡ length xs → take i slots ≡ map f (take i xs) → drop i slots ≡ replicate (8 - i) spare → slots ≡ map f xs ++ replicate (8 - length xs) spare
-filled_all f spare xs slots i end front back =
-    sym (take-append-drop i slots)
-    ∙ ap (λ l. l ++ drop i slots) (front ∙ ap (map f) (take_all i xs (omega arith)))
-    ∙ ap (λ l. map f xs ++ l) (back ∙ ap (λ n. replicate (8 - n) spare) end)
-
 pub eight : (xs : List Adder) → length xs ≤ 8 → length (eight_slots xs) ≡ 8
 eight xs few = length-append (wired xs) (replicate (8 - length xs) None) ∙ (let n = length-map xs Some in let m = length-replicate {A = Option Adder} (8 - length xs) None in omega arith)
 
@@ -44,13 +28,6 @@ valued_slots xs ys r few e t = by r (subst (λ zs. Tried (rules_from sample zs) 
           ap length h.1 ∙ length_values sample (eight_slots xs) ∙ (let k = eight xs few in omega arith),
         )
     by (Err f) h = sym (rules_padded sample (wired xs) (8 - length xs)) ∙ h
-
-module _ (j : ℕ) (xs : List Adder) (i : ℕ) (d : Adder) (h : i < length xs) where
-  pub reads_found : true ≡ reads j (get_or xs i d) → some_reads j (drop i xs) ≡ true
-  reads_found e = at_drop_more (some_reads j) xs i d h ∙ ap (λ b. b || some_reads j (drop (i + 1) xs)) (sym e)
-
-  pub reads_more : false ≡ reads j (get_or xs i d) → some_reads j (drop i xs) ≡ some_reads j (drop (i + 1) xs)
-  reads_more e = at_drop_more (some_reads j) xs i d h ∙ ap (λ b. b || some_reads j (drop (i + 1) xs)) (sym e)
 
 -- adders j to j + n - 1 are all read, or k is the first of them that is not
 pub all_read : (xs : List Adder) (j n : ℕ) → ((k : ℕ) → j ≤ k → k < j + n → some_reads k (drop k xs) ≡ true) → first_broken (read_rules_from xs j n) ≡ None
@@ -79,24 +56,24 @@ chain_broken xs out few =
 pub chain_crowded : (xs : List Adder) (out : ℕ) → 8 < length xs → first_broken (chain_rules xs out) ≡ Some TooManyAdders
 chain_crowded xs out many = ap (λ b. cond b (first_broken (rules_from sample (wired xs) ++ (output_rules (value (wired xs) (length xs)) out ++ read_rules xs))) (Some TooManyAdders)) (lt-leb (length xs) 8 many)
 
--- the value of the last adder, from the values of all
-pub last_value : (xs : List Adder) (at : List ℕ) → take (length xs + 1) at ≡ values_from sample (wired xs) → get_or at (length xs) 0 ≡ value (wired xs) (length xs)
-last_value xs at e = sym (get_or-take (length xs + 1) at (length xs) 0 (omega arith)) ∙ ap (λ l. get_or l (length xs) 0) e
+-- the value of the last adder, the n-th, from the values of all
+pub last_value : (xs : List Adder) (at : List ℕ) (n : ℕ) → n ≡ length xs → take (length xs + 1) at ≡ values_from sample (wired xs) → get_or at n 0 ≡ value (wired xs) (length xs)
+last_value xs at n up e = sym (get_or-take (length xs + 1) at n 0 (omega arith)) ∙ ap (λ l. get_or l n 0) e ∙ ap (value (wired xs)) up
 
 -- the same as it is met: in the adders, in the output over the values at of the adders, past both
 module _ (xs : List Adder) (out : ℕ) (few : length xs ≤ 8) where
   pub in_adders : (r : Refusal) → first_broken (rules_from sample (wired xs)) ≡ Some r → first_broken (chain_rules xs out) ≡ Some r
   in_adders r e = chain_broken xs out few ∙ ap (λ o. otherwise o (otherwise (first_broken (output_rules (value (wired xs) (length xs)) out)) (first_broken (read_rules xs)))) e
 
-  module _ (at : List ℕ) (same : take (length xs + 1) at ≡ values_from sample (wired xs)) (sound : first_broken (rules_from sample (wired xs)) ≡ None) where
-    past_adders : first_broken (chain_rules xs out) ≡ otherwise (first_broken (output_rules (get_or at (length xs) 0) out)) (first_broken (read_rules xs))
+  module _ (at : List ℕ) (n : ℕ) (up : n ≡ length xs) (same : take (length xs + 1) at ≡ values_from sample (wired xs)) (sound : first_broken (rules_from sample (wired xs)) ≡ None) where
+    past_adders : first_broken (chain_rules xs out) ≡ otherwise (first_broken (output_rules (get_or at n 0) out)) (first_broken (read_rules xs))
     past_adders =
         chain_broken xs out few
         ∙ ap (λ o. otherwise o (otherwise (first_broken (output_rules (value (wired xs) (length xs)) out)) (first_broken (read_rules xs)))) sound
-        ∙ ap (λ v. otherwise (first_broken (output_rules v out)) (first_broken (read_rules xs))) (sym (last_value xs at same))
+        ∙ ap (λ v. otherwise (first_broken (output_rules v out)) (first_broken (read_rules xs))) (sym (last_value xs at n up same))
 
-    pub in_output : (r : Refusal) → first_broken (output_rules (get_or at (length xs) 0) out) ≡ Some r → first_broken (chain_rules xs out) ≡ Some r
+    pub in_output : (r : Refusal) → first_broken (output_rules (get_or at n 0) out) ≡ Some r → first_broken (chain_rules xs out) ≡ Some r
     in_output r e = past_adders ∙ ap (λ o. otherwise o (first_broken (read_rules xs))) e
 
-    pub past_output : first_broken (output_rules (get_or at (length xs) 0) out) ≡ None → first_broken (chain_rules xs out) ≡ first_broken (read_rules xs)
+    pub past_output : first_broken (output_rules (get_or at n 0) out) ≡ None → first_broken (chain_rules xs out) ≡ first_broken (read_rules xs)
     past_output e = past_adders ∙ ap (λ o. otherwise o (first_broken (read_rules xs))) e

@@ -13,7 +13,7 @@ use Rattle.chains.specs.declared.model.Chain.{Chain}
 use Rattle.chains.specs.Rules.{constant, chain_rules, Keeps}
 
 abbrev pub chain_adders : Chain → List Adder
-chain_adders c = take c.len c.adders
+chain_adders c = c.adders
 
 -- what a sample of 1 becomes at the output
 abbrev pub chain_constant : Chain → ℕ
@@ -21,7 +21,7 @@ chain_constant c = constant (chain_adders c) c.shift
 
 -- what a sample of 1 becomes at an adder, if there is one of this number
 abbrev pub adder_value_at : Chain → ℕ → Option ℕ
-adder_value_at c j = cond (nat_le 1 j && nat_le j c.len) (Some (value (wired (chain_adders c)) j)) None
+adder_value_at c j = cond (nat_le 1 j && nat_le j (length c.adders)) (Some (value (wired (chain_adders c)) j)) None
 
 -- what an adder is by the shift-and-add rule, over the chain's own values
 abbrev pub by_rule : Chain → Adder → ℕ

@@ -2,6 +2,7 @@
 --   xs    the adders of the chain, adder 1 first
 --   out   its output shift
 use Rattle.std.specs.Prelude.{◌≡◌, ℕ, zero, suc, ◌+◌, ◌-◌, ◌*◌, ◌^◌, ◌<◌, ◌≤◌, Bool, false, ◌||◌, ◌⊎◌, List, [], ◌∷◌, ◌++◌, length, take, drop, replicate, Some, None, Ok, Err, Result, nat_le, slice_index_or}
+use Rattle.std.specs.List.{list_any}
 use Rattle.adders.specs.declared.wiring.Adder.{Adder}
 use Rattle.adders.specs.declared.refusals.Refusal.{Refusal}
 use Rattle.adders.specs.declared.refusals.Refusal.TheVariants.{TooManyAdders, AdderUnread}
@@ -22,8 +23,7 @@ Valued xs (Ok at) = (first_broken (rules_from sample (wired xs)) ≡ None) × (t
 Valued xs (Err e) = first_broken (rules_from sample (wired xs)) ≡ Some e
 
 abbrev pub some_reads : ℕ → List Adder → Bool
-some_reads source [] = false
-some_reads source (a ∷ xs) = reads source a || some_reads source xs
+some_reads source xs = list_any (reads source) xs
 
 -- each of n adders, from number j on, is read by a later one
 abbrev pub read_rules_from : List Adder → ℕ → ℕ → List Rule

@@ -7,8 +7,8 @@ ghost use Rattle.chains.specs.Chains.{chain_adders, chain_constant, adder_value_
 ghost use Rattle.forms.specs.Answers.{Only};
 
 use super::Chain;
-use crate::rules::{constant_of, padded, slots_of, values_of};
-use adders::{Adder, Refusal};
+use crate::rules::{constant_of, values_of};
+use adders::{Adder, AdderList, Refusal};
 use lines::Draft;
 
 // The most bytes that a chain line has.
@@ -37,14 +37,9 @@ impl Chain {
         ensures only { Only (Judged adders.now shift) result }
         ensures exactly { Decides (is_ok result) (Keeps adders.now shift) }
     {
-        match constant_of(adders, shift) {
-            Ok(_) => Ok(Chain {
-                adders: padded(adders),
-                len: adders.len(),
-                shift,
-            }),
-            Err(refusal) => Err(refusal),
-        }
+        let adders = AdderList::from_slice(adders).ok_or(Refusal::TooManyAdders)?;
+        constant_of(&adders, shift)?;
+        Ok(Chain { adders, shift })
     }
 
     // Its adders, adder 1 first.
@@ -52,14 +47,14 @@ impl Chain {
         ensures adders { result.now ≡ chain_adders self.now }
         ensures lawful { Keeps result.now self.now.shift }
     {
-        &self.adders[0..self.len]
+        self.adders.as_slice()
     }
 
     // Each of its adders in its slot, the others empty.
     pub fn slots(&self) -> [Option<Adder>; 8]
         ensures { result ≡ eight_slots (chain_adders self.now) }
     {
-        slots_of(self.adders())
+        self.adders.slots()
     }
 
     // Its output shift.
@@ -74,10 +69,7 @@ impl Chain {
         ensures value { result ≡ chain_constant self.now }
         ensures range { InRange result }
     {
-        match constant_of(self.adders(), self.shift) {
-            Ok(constant) => constant,
-            Err(_) => unreachable(),
-        }
+        constant_of(&self.adders, self.shift).unwrap()
     }
 
     // What a sample of 1 becomes at an adder, `None` where the chain has no adder of this number.
@@ -85,12 +77,10 @@ impl Chain {
         ensures value { result ≡ adder_value_at self.now adder }
         ensures rule { ShiftAndAdd self.now adder result }
     {
-        if adder == 0 || adder > self.len {
+        if adder == 0 || adder > self.adders.len() {
             return None;
         }
-        match values_of(self.adders()) {
-            Ok(values) => Some(values[adder]),
-            Err(_) => unreachable(),
-        }
+        let values = values_of(&self.adders).unwrap();
+        Some(values[adder])
     }
 }

@@ -1,0 +1,44 @@
+-- What calls at each number in turn gave, place by place.
+use Rattle.std.proofs.Common.{◌≡◌, ℕ, zero, suc, ◌+◌, ◌-◌, ◌<◌, ◌≤◌, List, [], ◌∷◌, ◌++◌, length, map, drop, replicate, set, Some, None, Option, slice_index_or, refl, subst, sym, ap, ◌∙◌, ⊎_elim, arith}
+use Rattle.std.specs.Prelude.{slice_get}
+use Rattle.std.proofs.lemmas.List.{drop-drop, drop-set-lt, drop-replicate}
+use Rattle.std.proofs.Math.Seq.{drop-append_seam}
+use Rattle.std.proofs.lemmas.Grind.{common_steps}
+use Rattle.std.proofs.lemmas.Bool.{cases_order}
+use Rattle.std.specs.Array.{IsFromFnResultFrom}
+use denote.Param.Members.{Mut, Called}
+
+module _ {F B : Type 0} (g : Mut F (ℕ × Unit {0}) B) (I : F → Type 0) (P : ℕ → B → Type 0) (keeps : (s : F) (i : ℕ) (y : B) (q : F) → I s → Called g s (i, tt) y q → P i y × I q) where
+  pub places : (f : F) (ys : List B) (i n k : ℕ) (d : B) → I f → IsFromFnResultFrom g f ys i n → i ≤ k → k < i + n → P k (slice_index_or ys k d)
+  places f ys i zero k d s r low high = absurd (omega arith)
+  places f ys i (suc n) k d s r low high =
+      let now = keeps f i r.1 r.0 s r.3 in
+      ⊎_elim (λ e. subst (λ j. P j (slice_index_or ys j d)) e (subst (P i) (sym (r.2.1 d)) now.0)) (⊎_elim (λ l. places r.0 ys (i + 1) n k d now.1 r.4 (omega arith) (omega arith)) (λ l. absurd (omega arith))) (cases_order i k)
+
+-- a list in its slots, the others empty
+pub length_padded : {A : Type 0} (xs : List A) (n : ℕ) → length xs ≤ n → length (map Some xs ++ replicate (n - length xs) None) ≡ n
+length_padded xs n h = grind (arith, common_steps)
+
+pub padded_at : {A : Type 0} (xs : List A) (n k : ℕ) (d : Option A) → k < n → slice_get xs k ≡ slice_index_or (map Some xs ++ replicate (n - length xs) None) k d
+padded_at [] (suc n) zero d h = grind (arith, common_steps)
+padded_at [] (suc n) (suc k) d h = let m = padded_at [] n k d (omega arith) in grind (arith, common_steps, m)
+padded_at (x ∷ xs) (suc n) zero d h = refl
+padded_at (x ∷ xs) (suc n) (suc k) d h = let e : suc n - suc (length xs) ≡ n - length xs = omega arith in rw e (padded_at xs n k d (omega arith))
+padded_at xs zero k d h = absurd (omega arith)
+
+-- the spare slots after one more is filled
+pub spare_less : {A : Type 0} (xs : List A) (n m : ℕ) (a b : A) → drop n xs ≡ replicate (m - n) b → drop (n + 1) (set xs n a) ≡ replicate (m - (n + 1)) b
+spare_less xs n m a b e =
+    drop-set-lt (n + 1) xs n a (omega arith)
+    ∙ sym (drop-drop 1 n xs)
+    ∙ ap (drop 1) e
+    ∙ drop-replicate 1 (m - n) b
+    ∙ ap (λ k. replicate k b) (omega arith)
+
+-- slots of which the first are filled, the others spare
+pub spare_behind : {A : Type 0} (xs ys : List A) (m : ℕ) (b : A) → length xs ≤ m → ys ≡ xs → (length xs ≤ m) × (length (ys ++ drop (length xs) (replicate m b)) ≡ m) × (drop (length xs) (ys ++ drop (length xs) (replicate m b)) ≡ replicate (m - length xs) b)
+spare_behind xs ys m b h e = (
+  h,
+  grind (arith, common_steps, e, drop-replicate),
+  ap (λ l. drop (length xs) (l ++ drop (length xs) (replicate m b))) e ∙ drop-append_seam xs (drop (length xs) (replicate m b)) ∙ drop-replicate (length xs) m b,
+)
