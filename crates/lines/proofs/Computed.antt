@@ -3,8 +3,7 @@ use Rattle.std.proofs.Common.{◌≡◌, ℕ, List, Some, None, Option, refl, su
 use Rattle.adders.specs.declared.wiring.Adder.{Adder}
 use Rattle.lines.specs.declared.scan.Part.{Part}
 use Rattle.lines.specs.Form.{Line}
-use Rattle.lines.specs.Scan.{final}
-use Rattle.lines.proofs.Runs.{State, at, dead, run, start}
+use Rattle.lines.specs.Scan.{final, State, at, dead, run, start}
 use Rattle.lines.proofs.Texts.{said}
 
 abbrev at_end : List Adder → Option ℕ → Option (List Adder × ℕ)
