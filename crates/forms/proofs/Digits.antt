@@ -9,6 +9,3 @@ digit_some b d e = grind (arith, nat_tests)
 
 pub digit_none : (b : ℕ) → digit b ≡ None → ¬ IsInRange 48 57 b
 digit_none b e r = grind (arith, nat_tests)
-
-pub digit_of : (d : ℕ) → d ≤ 9 → digit (48 + d) ≡ Some d
-digit_of d h = grind (arith, nat_tests)

@@ -22,12 +22,10 @@ pub trait Scanner: Copy {
 
     // One byte more, `None` where nothing of the form goes on so.
     fn step(self, byte: u8) -> Option<Self>
-        requires { (bs : List ℕ) × Reached bs self }
         ensures { (bs : List ℕ) → Reached bs self → MatchOption result (¬ Viable Form (bs ++ byte ∷ [])) (Reached (bs ++ byte ∷ [])) };
 
     // What the bytes say that led here, `None` where they are too few.
     fn end(self) -> Option<Self::Said>
-        requires { (bs : List ℕ) × Reached bs self }
         ensures { (bs : List ℕ) → Reached bs self → MatchOption result (¬ Form bs) (Says bs) };
 
     ghost viable: { (bs : List ℕ) (scanner : Self) → Reached bs scanner → Viable Form bs };

@@ -158,9 +158,9 @@ key_step k b h =
     (cond_both (eqb b c) _ None Goes
     (λ e.
     let more : take k key ++ b ∷ [] ≡ take (k + 1) key = ap (λ d. take k key ++ d ∷ []) (eqb-true b _ e) ∙ sym (take_more key k 0 (omega arith)) in
-    cond_both (eqb k 5) (Body Nothing Empty) (Key (k + 1)) (λ q. Text [] q (take k key ++ b ∷ []))
-    (λ f. subst (Text [] (Body Nothing Empty)) (ap (λ j. take (j + 1) key) (sym (eqb-true k 5 f)) ∙ sym more) (in_body none (fresh nothing)))
-    (λ f. subst (Text [] (Key (k + 1))) (sym more) (in_key (omega (arith, eqb-false k 5 f)))))
+    cond_both (eqb (k + 1) 6) (Body Nothing Empty) (Key (k + 1)) (λ q. Text [] q (take k key ++ b ∷ []))
+    (λ f. subst (Text [] (Body Nothing Empty)) (ap (λ j. take j key) (sym (eqb-true (k + 1) 6 f)) ∙ sym more) (in_body none (fresh nothing)))
+    (λ f. subst (Text [] (Key (k + 1))) (sym more) (in_key (omega (arith, eqb-false (k + 1) 6 f)))))
     (λ e. tt))
 
 text_step : {xs : List Adder} {p : Part} {bs : List ℕ} → Text xs p bs → (b : ℕ) → Kept (next (at xs p) b) (bs ++ b ∷ [])

@@ -1,5 +1,5 @@
 -- The reader as an automaton, which the code follows step by step. What it comes to is stated over the form.
-use Rattle.std.specs.Prelude.{ℕ, ◌+◌, ◌*◌, List, [], ◌∷◌, ◌++◌, cond, Some, None, Option, ◌==◌, slice_get}
+use Rattle.std.specs.Prelude.{ℕ, ◌+◌, ◌*◌, List, [], ◌∷◌, ◌++◌, Some, None, Option, ◌==◌, slice_get, if◌then◌else◌, option_and_then}
 use Rattle.std.specs.Option.{option_map}
 use Rattle.adders.specs.declared.wiring.Adder.{Adder}
 use Rattle.adders.specs.declared.wiring.Sign.{Sign}
@@ -18,11 +18,11 @@ use Rattle.lines.specs.declared.scan.Move.TheVariants.{On, Done}
 use Rattle.lines.specs.Form.{key}
 
 abbrev pub symbol : ℕ → Option Symbol
-symbol b = cond (b == 46) (Some Dot) (cond (b == 43) (Some (Mark Plus)) (cond (b == 45) (Some (Mark Minus)) (cond (b == 32) (Some Space) (option_map (λ d. Digit d) (digit b)))))
+symbol b = if b == 46 then Some Dot else if b == 43 then Some (Mark Plus) else if b == 45 then Some (Mark Minus) else if b == 32 then Some Space else option_map (λ d. Digit d) (digit b)
 
 -- one more digit; a zero is a number of its own
 abbrev pub push : Number → ℕ → Option Number
-push Empty d = Some (cond (d == 0) (Full 0) (Open d))
+push Empty d = Some (if d == 0 then Full 0 else Open d)
 push (Open n) d = Some (Full (10 * n + d))
 push (Full n) d = None
 
@@ -34,8 +34,7 @@ value (Full n) = Some n
 
 -- the number goes on by a digit
 abbrev pub grown : Front → Option Number → Option Move
-grown f (Some m) = Some (On (Body f m))
-grown f None = None
+grown f o = option_map (λ m. On (Body f m)) o
 
 -- the number n after a front is at its end: a dot ends a source, a sign the left shift, a space the right shift, and nothing else does
 abbrev pub after_dot : Front → ℕ → Option Move
@@ -63,8 +62,7 @@ closed f n (Mark g) = after_mark g f n
 closed f n Space = after_space f n
 
 abbrev pub ended : Front → Option ℕ → Symbol → Option Move
-ended f (Some n) y = closed f n y
-ended f None y = None
+ended f v y = option_and_then (λ n. closed f n y) v
 
 abbrev pub on_symbol : Front → Number → Symbol → Option Move
 on_symbol f m (Digit d) = grown f (push m d)
@@ -73,13 +71,11 @@ on_symbol f m (Mark g) = ended f (value m) (Mark g)
 on_symbol f m Space = ended f (value m) Space
 
 abbrev pub on_byte : Front → Number → Option Symbol → Option Move
-on_byte f m (Some y) = on_symbol f m y
-on_byte f m None = None
+on_byte f m y = option_and_then (on_symbol f m) y
 
 -- byte k of the key, where there is one
 abbrev pub keyed : ℕ → ℕ → Option ℕ → Option Move
-keyed k b (Some c) = cond (b == c) (Some (On (cond (k == 5) (Body Nothing Empty) (Key (k + 1))))) None
-keyed k b None = None
+keyed k b o = option_and_then (λ c. if b == c then Some (On (if k + 1 == 6 then Body Nothing Empty else Key (k + 1))) else None) o
 
 abbrev pub on_key : ℕ → ℕ → Option Move
 on_key k b = keyed k b (slice_get key k)

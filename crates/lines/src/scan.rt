@@ -134,10 +134,11 @@ fn after_key(k: usize, byte: u8) -> Option<Move>
     if byte != *KEY.get(k)? {
         return None;
     }
-    Some(Move::On(if k == 5 {
+    let read = k + 1;
+    Some(Move::On(if read == KEY.len() {
         Part::Body(Front::Nothing, Number::Empty)
     } else {
-        Part::Key(k + 1)
+        Part::Key(read)
     }))
 }
 
