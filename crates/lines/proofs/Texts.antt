@@ -3,7 +3,7 @@ use Rattle.std.proofs.Common.{◌≡◌, ℕ, zero, suc, ◌+◌, ◌*◌, ◌�
 use borrow.Author.Tests.{eqb-false}
 use Rattle.std.proofs.lemmas.List.{take_more, take-append-drop}
 use Rattle.std.proofs.lemmas.Bool.{cond_both}
-use Rattle.std.proofs.lemmas.Option.{slice_get-get_or}
+use Rattle.std.proofs.lemmas.Option.{none-some, slice_get-get_or}
 use Rattle.std.specs.Prelude.{slice_get}
 use Rattle.adders.specs.declared.wiring.Operand.{Operand}
 use Rattle.adders.specs.declared.wiring.Adder.{Adder}
@@ -246,24 +246,19 @@ text_viable (in_body {xs = xs} {ts = ts} {t = t} f h) =
 pub viable : (bs : List ℕ) (xs : List Adder) (p : Part) → run start bs ≡ at xs p → Viable Form bs
 viable bs xs p e = text_viable (subst (λ s. Kept s bs) e (kept bs))
 
-dead_at : {xs : List Adder} {p : Part} → dead ≡ at xs p → ⊥
-dead_at e = let z : ◌≡◌ {A = ℕ} 0 1 = cc in omega arith
-
 pub not_viable : (bs : List ℕ) → run start bs ≡ dead → Viable Form bs → ⊥
 not_viable bs e v =
     let r = run_line v.1.2 in
-    dead_at (sym (run_dead v.0) ∙ ap (λ s. run s v.0) (sym e) ∙ sym (run_append start bs v.0) ∙ r.runs)
-
-none_some : {n : ℕ} → None ≡ Some n → ⊥
-none_some e = let z : ◌≡◌ {A = ℕ} 0 1 = cc in omega arith
+    let same = sym (run_dead v.0) ∙ ap (λ s. run s v.0) (sym e) ∙ sym (run_append start bs v.0) ∙ r.runs in
+    cc same
 
 ending : {xs : List Adder} {p : Part} {bs : List ℕ} (out : ℕ) → Text xs p bs → final p ≡ Some out → Line xs out bs
 unfolding Valued
-ending out (in_key h) g = absurd (none_some g)
+ending out (in_key h) g = cc g
 ending out (in_body a (tail {m = m} nothing h)) g = line a (subst (λ v. Valued v m) g (valued h))
-ending out (in_body a (tail (left_source x) h)) g = absurd (none_some g)
-ending out (in_body a (tail (left x) h)) g = absurd (none_some g)
-ending out (in_body a (tail (right_source x y) h)) g = absurd (none_some g)
+ending out (in_body a (tail (left_source x) h)) g = cc g
+ending out (in_body a (tail (left x) h)) g = cc g
+ending out (in_body a (tail (right_source x y) h)) g = cc g
 
 -- a line that may end where it does says the adders that were read
 pub said : (bs : List ℕ) (xs : List Adder) (p : Part) (out : ℕ) → run start bs ≡ at xs p → final p ≡ Some out → Line xs out bs
@@ -274,7 +269,7 @@ end (at xs p) = final p
 end dead = None
 
 pub unsaid : (bs : List ℕ) (xs : List Adder) (p : Part) → run start bs ≡ at xs p → final p ≡ None → Form bs → ⊥
-unsaid bs xs p e f v = let r = run_line v.2 in none_some (sym f ∙ ap end (sym e ∙ r.runs) ∙ r.is)
+unsaid bs xs p e f v = let r = run_line v.2 in none-some _ (sym f ∙ ap end (sym e ∙ r.runs) ∙ r.is)
 
 -- a line says one list of adders and one output shift
 pub says_one : {xs ys : List Adder} {m n : ℕ} {bs : List ℕ} → Line xs m bs → Line ys n bs → (xs ≡ ys) × (m ≡ n)

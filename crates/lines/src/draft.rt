@@ -39,6 +39,7 @@ impl Draft {
 }
 
 // A line of the form says one list of adders and one output shift, and writing these gives the line; a broken line has one place.
+#[tactic(auto, using(crate::proofs::Readings::one_reading))]
 pub fn lines_have_one_reading()
     ensures { OneReading }
 {}
