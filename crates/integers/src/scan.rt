@@ -56,12 +56,13 @@ impl Scanner for Part {
     }
 
     fn step(self, byte: u8) -> Option<Part> {
-        if let (Part::Nothing, b'-') = (self, byte) {
-            return Some(Part::Minus);
+        match (self, byte) {
+            (Part::Nothing, b'-') => Some(Part::Minus),
+            _ => self.with_digit(Digit::of(byte)?).map(Part::Number),
         }
-        self.with_digit(Digit::of(byte)?).map(Part::Number)
     }
 
+    #[tactic(auto, using(crate::proofs::Texts::short_off))]
     fn end(self) -> Option<i64> {
         match self {
             Part::Number(number) => Some(number),
