@@ -1,6 +1,10 @@
-// Forms of text, and where bytes break them.
+// Forms of text, where bytes break them, and a reader for every form that is read byte by byte.
 #![tactic(auto)]
 
+mod digit;
 mod error;
+mod scanner;
 
+pub use digit::Digit;
 pub use error::FormError;
+pub use scanner::{Scanner, read};

@@ -1,2 +1,3 @@
 pub mod Numbers
 pub mod Texts
+pub mod Readings

@@ -1,48 +1,36 @@
--- The steps of the reader, which serve its proof.
---   Fine    a part that some number begins with
---   step    what one byte more leads to; 45 is the minus, and 48 to 57 are the digits
-use Rattle.std.specs.Prelude.{ℕ, ◌+◌, ◌-◌, ◌*◌, ◌^◌, ◌≤◌, cond, ◌&&◌, ℤ, pos, negsuc, Some, None, Option, ◌==◌, nat_le}
+-- What is read of a number, and how it goes on. The digits are the bytes from 48, and 45 is the minus.
+use Rattle.std.specs.Prelude.{◌≡◌, ℕ, suc, ◌+◌, ◌*◌, ◌<◌, ◌≤◌, List, [], ◌∷◌, ◌++◌, ℤ, pos, negsuc, Option, MatchOption}
+use Rattle.std.proofs.Common.{sym, ap, subst, append-nil, arith}
+use Rattle.std.proofs.lemmas.Fmt.{decimal_digit}
+use Rattle.std.proofs.lemmas.Int.{ints}
+use Rattle.forms.specs.Breaking.{Viable}
+use Rattle.integers.specs.Form.{Integer, Form}
 use Rattle.integers.specs.declared.scan.Part.{Part}
-use Rattle.integers.specs.declared.scan.Part.TheVariants.{Nothing, Minus, Zero, Above, Below}
+use Rattle.integers.specs.declared.scan.Part.TheVariants.{Nothing, Minus, Number}
 
-abbrev pub Fine : Part → Type 0
-Fine Nothing = Unit {0}
-Fine Minus = Unit {0}
-Fine Zero = Unit {0}
-Fine (Above n) = (1 ≤ n) × (n ≤ 2 ^ 63 - 1)
-Fine (Below n) = (1 ≤ n) × (n ≤ 2 ^ 63)
+-- the bytes that lead to a part
+abbrev pub Reached : List ℕ → Part → Type 0
+Reached bs Nothing = bs ≡ []
+Reached bs Minus = bs ≡ 45 ∷ []
+Reached bs (Number z) = Integer z bs
 
-abbrev pub grown : ℕ → ℕ → ℕ → Option ℕ
-grown n d most = cond (nat_le (10 * n + d) most) (Some (10 * n + d)) None
+-- the number that the bytes say, none where no number begins with them
+abbrev pub Continued : List ℕ → Option ℤ → Type 0
+Continued bs o = MatchOption o (¬ Viable Form bs) (λ z. Integer z bs)
 
-abbrev pub above : Option ℕ → Option Part
-above (Some n) = Some (Above n)
-above None = None
+-- a number with one digit more on its own side of 0
+abbrev pub longer : ℤ → ℕ → ℤ
+longer (pos n) d = pos (10 * n + d)
+longer (negsuc n) d = negsuc (10 * n + 9 + d)
 
-abbrev pub below : Option ℕ → Option Part
-below (Some n) = Some (Below n)
-below None = None
+-- Each part goes on to a number.
+pub digit_said : (d : ℕ) → d ≤ 9 → Integer (pos d) ((48 + d) ∷ [])
+digit_said d h = record { held = record { least = omega (arith, ints); most = omega (arith, ints) }; written = sym (decimal_digit d (omega arith)) }
 
-abbrev pub on_digit : Part → ℕ → Option Part
-on_digit Nothing d = cond (d == 0) (Some Zero) (Some (Above d))
-on_digit Minus d = cond (d == 0) None (Some (Below d))
-on_digit Zero d = None
-on_digit (Above n) d = above (grown n d (2 ^ 63 - 1))
-on_digit (Below n) d = below (grown n d (2 ^ 63))
+pub minus_said : (d : ℕ) → d < 9 → Integer (negsuc d) (45 ∷ (48 + suc d) ∷ [])
+minus_said d h = record { held = record { least = omega (arith, ints); most = omega (arith, ints) }; written = ap (λ l. 45 ∷ l) (sym (decimal_digit (suc d) (omega arith))) }
 
-abbrev pub on_minus : Part → Option Part
-on_minus Nothing = Some Minus
-on_minus Minus = None
-on_minus Zero = None
-on_minus (Above n) = None
-on_minus (Below n) = None
-
-abbrev pub step : Part → ℕ → Option Part
-step p b = cond (nat_le 48 b && nat_le b 57) (on_digit p (b - 48)) (cond (b == 45) (on_minus p) None)
-
-abbrev pub end : Part → Option ℤ
-end Nothing = None
-end Minus = None
-end Zero = Some (pos 0)
-end (Above n) = Some (pos n)
-end (Below n) = Some (negsuc (n - 1))
+pub viable : (bs : List ℕ) (part : Part) → Reached bs part → Viable Form bs
+viable bs Nothing e = (48 ∷ [], (pos 0, subst (λ l. Integer (pos 0) (l ++ 48 ∷ [])) (sym e) (digit_said 0 (omega arith))))
+viable bs Minus e = (49 ∷ [], (negsuc 0, subst (λ l. Integer (negsuc 0) (l ++ 49 ∷ [])) (sym e) (minus_said 0 (omega arith))))
+viable bs (Number z) says = ([], (z, subst (Integer z) (sym (append-nil bs)) says))

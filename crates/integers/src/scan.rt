@@ -1,87 +1,74 @@
 // A number as far as it is read, one byte at a time.
-ghost use Rattle.std.specs.Prelude.{◌≡◌, ◌^◌, ◌≤◌};
-ghost use Rattle.integers.specs.Scan.{Fine, grown, on_digit, step, end};
+ghost use Rattle.std.specs.Prelude.{List, [], ◌∷◌, ◌++◌, ◌+◌, SomeIff, ℕ};
+ghost use Rattle.arith.specs.Words.{InWord};
+ghost use Rattle.integers.specs.Form.{Integer, Form};
+ghost use Rattle.integers.specs.Scan.{Reached, Continued, longer, viable};
 
-// The most that a number is above 0, and below it.
-const MOST_ABOVE: u64 = 9_223_372_036_854_775_807;
-
-const MOST_BELOW: u64 = 9_223_372_036_854_775_808;
+use forms::{Digit, Scanner};
 
 #[derive(Clone, Copy)]
 pub(crate) enum Part {
     Nothing,
     Minus,
-    // a zero is a number of its own
-    Zero,
-    // so far above 0
-    Above(u64),
-    // so far below 0
-    Below(u64),
-}
-
-// One digit more, if that is no more than `most`.
-fn grown(number: u64, digit: u8, most: u64) -> Option<u64>
-    requires small { digit ≤ 9 }
-    requires some { 9 ≤ most }
-    requires fits { most ≤ 2 ^ 63 }
-    ensures { result ≡ grown number digit most }
-{
-    let digit = u64::from(digit);
-    if number > (most - digit) / 10 {
-        None
-    } else {
-        Some(10 * number + digit)
-    }
+    Number(i64),
 }
 
 impl Part {
-    // What one byte more leads to, `None` where no number goes on so.
-    pub(crate) fn step(self, byte: u8) -> Option<Part>
-        ensures { result ≡ step self byte }
+    // The number with one digit more, `None` where no number goes on so.
+    fn with_digit(self, digit: Digit) -> Option<i64>
+        ensures { (bs : List ℕ) → Reached bs self → Continued (bs ++ (48 + digit) ∷ []) result }
     {
-        match byte {
-            b'0'..=b'9' => self.digit(byte - b'0'),
-            b'-' => match self {
-                Part::Nothing => Some(Part::Minus),
-                _ => None,
-            },
+        let value = i64::from(digit.value());
+        match self {
+            Part::Nothing => Some(value),
+            Part::Minus if value == 0 => None,
+            Part::Minus => Some(-value),
+            Part::Number(0) => None,
+            Part::Number(number) => longer(number, digit),
+        }
+    }
+}
+
+// A number with one digit more on its own side of 0, if a word holds it.
+fn longer(number: i64, digit: Digit) -> Option<i64>
+    ensures { SomeIff result (InWord (longer number digit)) (longer number digit) }
+{
+    let tens = number.checked_mul(10)?;
+    let units = i64::from(digit.value());
+    if number < 0 {
+        tens.checked_sub(units)
+    } else {
+        tens.checked_add(units)
+    }
+}
+
+impl Scanner for Part {
+    type Said = i64;
+
+    ghost Says = { λ bs z. Integer z bs };
+
+    ghost Form = { Form };
+
+    ghost Reached = { Reached };
+
+    fn start() -> Part {
+        Part::Nothing
+    }
+
+    fn step(self, byte: u8) -> Option<Part> {
+        match (self, byte) {
+            (Part::Nothing, b'-') => Some(Part::Minus),
+            _ => self.with_digit(Digit::of(byte)?).map(Part::Number),
+        }
+    }
+
+    #[tactic(auto, using(crate::proofs::Texts::short_off))]
+    fn end(self) -> Option<i64> {
+        match self {
+            Part::Number(number) => Some(number),
             _ => None,
         }
     }
 
-    // One digit more.
-    fn digit(self, digit: u8) -> Option<Part>
-        requires { digit ≤ 9 }
-        ensures { result ≡ on_digit self digit }
-    {
-        match self {
-            Part::Nothing if digit == 0 => Some(Part::Zero),
-            Part::Nothing => Some(Part::Above(u64::from(digit))),
-            Part::Minus if digit == 0 => None,
-            Part::Minus => Some(Part::Below(u64::from(digit))),
-            Part::Zero => None,
-            Part::Above(number) => match grown(number, digit, MOST_ABOVE) {
-                Some(number) => Some(Part::Above(number)),
-                None => None,
-            },
-            Part::Below(number) => match grown(number, digit, MOST_BELOW) {
-                Some(number) => Some(Part::Below(number)),
-                None => None,
-            },
-        }
-    }
-
-    // The number, if it may stop here.
-    pub(crate) fn end(self) -> Option<i64>
-        requires { Fine self }
-        ensures { result ≡ end self }
-    {
-        match self {
-            Part::Nothing => None,
-            Part::Minus => None,
-            Part::Zero => Some(0),
-            Part::Above(number) => Some(number as i64),
-            Part::Below(number) => Some(-((number - 1) as i64) - 1),
-        }
-    }
+    ghost viable = { viable };
 }

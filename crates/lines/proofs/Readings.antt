@@ -1,11 +1,10 @@
 -- A line is read in one way only.
-use Rattle.std.proofs.Common.{◌≡◌, ℕ, ◌+◌, ◌*◌, ◌/◌, ◌%◌, ◌<◌, ◌≤◌, List, ◌++◌, take, drop, decimal, sym, ap, ◌∙◌, subst, ⊎_elim, append_assoc, arith}
+use Rattle.std.proofs.Common.{◌≡◌, ℕ, ◌+◌, ◌*◌, ◌/◌, ◌%◌, List, decimal, sym, ◌∙◌, arith}
 use Rattle.std.proofs.lemmas.Fmt.{decimal_digit, decimal_step}
-use Rattle.std.proofs.lemmas.List.{take-append-drop, take-take}
-use Rattle.std.proofs.lemmas.Bool.{cases_order}
 use Rattle.adders.specs.declared.wiring.Operand.{Operand}
 use Rattle.adders.specs.declared.wiring.Adder.{Adder}
-use Rattle.lines.specs.Form.{Decimal, one, two, OperandForm, operand, AdderForm, adder, AddersForm, none, more, Line, line, Form, Viable, BrokenAt, operand_text, adder_text, adders_text, line_text, OneReading}
+use Rattle.lines.specs.Form.{Decimal, one, two, OperandForm, operand, AdderForm, adder, AddersForm, none, more, Line, line, Form, operand_text, adder_text, adders_text, line_text, OneReading}
+use Rattle.forms.proofs.Breaks.{breaks_once}
 use Rattle.lines.proofs.Texts.{says_one}
 
 decimal_written : {n : ℕ} {bs : List ℕ} → Decimal n bs → bs ≡ decimal n
@@ -28,19 +27,5 @@ adders_written (more a b) = let p = adder_written a in let q = adders_written b 
 pub line_written : {xs : List Adder} {out : ℕ} {bs : List ℕ} → Line xs out bs → bs ≡ line_text xs out
 line_written (line a b) = let p = adders_written a in let q = decimal_written b in cc
 
--- a front of what some line begins with is one too
-viable_front : (bs : List ℕ) (i j : ℕ) → i ≤ j → Viable (take j bs) → Viable (take i bs)
-viable_front bs i j h v =
-    let same : take j bs ++ v.0 ≡ take i bs ++ (drop i (take j bs) ++ v.0) =
-    ap (λ l. l ++ v.0) (sym (take-append-drop i (take j bs)) ∙ ap (λ l. l ++ drop i (take j bs)) (take-take i j bs h)) ∙ append_assoc (take i bs) (drop i (take j bs)) v.0
-    in (drop i (take j bs) ++ v.0, subst Form same v.1)
-
--- no line breaks before the place where it breaks
-not_earlier : (bs : List ℕ) (i j : ℕ) → BrokenAt bs i → BrokenAt bs j → i < j → ⊥
-not_earlier bs i j a b h = a.after (omega (arith, b.within)) (viable_front bs (i + 1) j (omega arith) b.before)
-
-pub breaks_once : (bs : List ℕ) (i j : ℕ) → BrokenAt bs i → BrokenAt bs j → i ≡ j
-breaks_once bs i j a b = ⊎_elim (λ e. e) (⊎_elim (λ h. absurd (not_earlier bs i j a b h)) (λ h. absurd (not_earlier bs j i b a h))) (cases_order i j)
-
 pub one_reading : OneReading
-one_reading = record { says_one = says_one; written = line_written; breaks_once = breaks_once }
+one_reading = record { says_one = says_one; written = line_written; breaks_once = breaks_once Form }

@@ -1,43 +1,19 @@
 -- The automaton, run over a whole line: it reads each line of the form to its end.
-use Rattle.std.proofs.Common.{◌≡◌, ℕ, ◌+◌, ◌*◌, ◌≤◌, cond, eqb, List, [], ◌∷◌, ◌++◌, Some, sym, refl, ap, ◌∙◌, append_assoc, append-nil, arith}
+use Rattle.std.proofs.Common.{◌≡◌, ℕ, ◌+◌, ◌*◌, ◌≤◌, cond, eqb, List, [], ◌∷◌, ◌++◌, Some, None, Option, sym, refl, ap, ◌∙◌, append_assoc, append-nil, arith}
 use Rattle.std.proofs.lemmas.Bool.Decides.{nat_tests}
 use Rattle.adders.specs.declared.wiring.Operand.{Operand}
 use Rattle.adders.specs.declared.wiring.Adder.{Adder}
 use Rattle.adders.specs.declared.wiring.Sign.{Sign}
 use Rattle.adders.specs.declared.wiring.Sign.TheVariants.{Plus, Minus}
 use Rattle.lines.specs.declared.scan.Symbol.{Symbol}
-use Rattle.lines.specs.declared.scan.Symbol.TheVariants.{Digit, Dot, Mark, Space, Other}
+use Rattle.lines.specs.declared.scan.Symbol.TheVariants.{Digit, Dot, Mark, Space}
 use Rattle.lines.specs.declared.scan.Number.{Number}
 use Rattle.lines.specs.declared.scan.Number.TheVariants.{Empty, Open, Full}
 use Rattle.lines.specs.declared.scan.Front.{Front}
 use Rattle.lines.specs.declared.scan.Front.TheVariants.{Nothing, LeftSource, Left, RightSource}
-use Rattle.lines.specs.declared.scan.Part.{Part}
-use Rattle.lines.specs.declared.scan.Part.TheVariants.{Key, Body}
-use Rattle.lines.specs.declared.scan.Move.{Move}
-use Rattle.lines.specs.declared.scan.Move.TheVariants.{On, Done, Broken}
+use Rattle.lines.specs.declared.scan.Part.TheVariants.{Body}
 use Rattle.lines.specs.Form.{Decimal, one, two, OperandForm, operand, mark, AdderForm, adder, AddersForm, none, more, Line, line}
-use Rattle.lines.specs.Scan.{symbol, push, value, grown, closed, ended, on_symbol, step}
-
--- the adders that are read and the part that is being read, or a line that is broken
-pub data State : Type 0 where
-  at : List Adder → Part → State
-  dead : State
-
-abbrev pub moved : List Adder → Move → State
-moved xs (On q) = at xs q
-moved xs (Done a) = at (xs ++ a ∷ []) (Body Nothing Empty)
-moved xs Broken = dead
-
-abbrev pub next : State → ℕ → State
-next (at xs p) b = moved xs (step p b)
-next dead b = dead
-
-abbrev pub run : State → List ℕ → State
-run s [] = s
-run s (b ∷ bs) = run (next s b) bs
-
-abbrev pub start : State
-start = at [] (Key 0)
+use Rattle.lines.specs.Scan.{symbol, push, value, grown, closed, ended, on_byte, step, State, at, dead, moved, next, run, start}
 
 pub run_append : (s : State) (p q : List ℕ) → run s (p ++ q) ≡ run (run s p) q
 run_append s [] q = refl
@@ -53,16 +29,19 @@ Means (Digit d) b = (b ≡ 48 + d) × (d ≤ 9)
 Means Dot b = b ≡ 46
 Means (Mark g) b = b ≡ mark g
 Means Space b = b ≡ 32
-Means Other b = Unit {0}
 
-pub means : (b : ℕ) → Means (symbol b) b
+abbrev pub ByteMeans : Option Symbol → ℕ → Type 0
+ByteMeans (Some y) b = Means y b
+ByteMeans None b = Unit {0}
+
+pub means : (b : ℕ) → ByteMeans (symbol b) b
 means b = grind (arith, nat_tests)
 
-symbol_digit : (d : ℕ) → d ≤ 9 → symbol (48 + d) ≡ Digit d
+symbol_digit : (d : ℕ) → d ≤ 9 → symbol (48 + d) ≡ Some (Digit d)
 symbol_digit d h = grind (arith, nat_tests)
 
 digit_step : (f : Front) (m : Number) (d : ℕ) → d ≤ 9 → step (Body f m) (48 + d) ≡ grown f (push m d)
-digit_step f m d h = ap (on_symbol f m) (symbol_digit d h)
+digit_step f m d h = ap (on_byte f m) (symbol_digit d h)
 
 abbrev pub digit : ℕ → Number
 digit d = cond (eqb d 0) (Full 0) (Open d)

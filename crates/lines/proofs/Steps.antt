@@ -1,35 +1,31 @@
--- The steps of the reader's loop.
-use Rattle.std.proofs.Common.{◌≡◌, ℕ, ◌+◌, ◌<◌, ◌≤◌, List, [], ◌∷◌, length, get_or, take, drop, None, sym, ap, ◌∙◌, subst, arith}
-use Rattle.std.proofs.lemmas.List.{take_more, take_all, take-append-drop}
+-- The steps of the reader.
+use Rattle.std.proofs.Common.{◌≡◌, ℕ, ◌<◌, ◌≤◌, List, [], ◌∷◌, ◌++◌, length, Option, sym, ap, ◌∙◌, ⊎_elim, arith}
+use Rattle.std.proofs.lemmas.List.{take_all, take-append-le, length-take, length_push}
+use Rattle.std.proofs.lemmas.Bool.{cases_lt}
 use Rattle.adders.specs.declared.wiring.Adder.{Adder}
-use Rattle.lines.specs.declared.scan.Part.{Part}
-use Rattle.lines.specs.declared.scan.Move.TheVariants.{Broken}
-use Rattle.lines.specs.Form.{Form, Viable, BrokenAt}
-use Rattle.lines.specs.Scan.{step, final}
-use Rattle.lines.proofs.Runs.{at, moved, next, run, start, run_append}
-use Rattle.lines.proofs.Texts.{viable, not_viable, unsaid}
+use Rattle.lines.specs.declared.scan.Move.{Move}
+use Rattle.lines.specs.declared.reader.Reader.{Reader}
+use Rattle.lines.specs.Scan.{step, at, moved, next, run, start}
+use Rattle.lines.specs.Drafts.{Holds}
+use Rattle.lines.specs.Reading.{Reached}
+use Rattle.lines.proofs.Runs.{run_append}
+use Rattle.lines.proofs.Texts.{viable}
 
-module _ (bs : List ℕ) (i : ℕ) (xs : List Adder) (p : Part) (e : run start (take i bs) ≡ at xs p) where
-  pub run_more : i < length bs → run start (take (i + 1) bs) ≡ moved xs (step p (get_or bs i 0))
-  run_more h = ap (run start) (take_more bs i 0 h) ∙ run_append start (take i bs) (get_or bs i 0 ∷ []) ∙ ap (λ s. next s (get_or bs i 0)) e
+-- one byte more
+pub run_more : (bs : List ℕ) (b : ℕ) (reader : Reader) (reached : Reached bs reader) (m : Option Move) → step reader.part b ≡ m → run start (bs ++ b ∷ []) ≡ moved reached.all m
+run_more bs b reader reached m e = run_append start bs (b ∷ []) ∙ ap (λ s. next s b) reached.ran ∙ ap (moved reached.all) e
 
-  pub stops : i < length bs → step p (get_or bs i 0) ≡ Broken → BrokenAt bs i
-  stops h f =
-      let gone : Viable (take (i + 1) bs) → ⊥ = not_viable (take (i + 1) bs) (run_more h ∙ ap (moved xs) f) in
-      record {
-        within = omega arith;
-        before = viable (take i bs) xs p e;
-        after = λ _. gone;
-        broken = λ v. gone (drop (i + 1) bs, subst Form (sym (take-append-drop (i + 1) bs)) v);
-      }
+pub reached_at : (bs : List ℕ) (reader : Reader) (xs : List Adder) → run start bs ≡ at xs reader.part → Holds reader.adders xs → Reached bs reader
+reached_at bs reader xs ran holds = record { viable = viable bs xs reader.part ran; all = xs; ran = ran; holds = holds }
 
-  pub whole : length bs ≤ i → run start bs ≡ at xs p
-  whole h = ap (run start) (sym (take_all i bs h)) ∙ e
-
-  pub stops_short : length bs ≤ i → final p ≡ None → BrokenAt bs (length bs)
-  stops_short h f = record {
-    within = omega arith;
-    before = subst Viable (sym (take_all (length bs) bs (omega arith))) (viable bs xs p (whole h));
-    after = λ k. absurd (omega arith);
-    broken = unsaid bs xs p (whole h) f;
-  }
+-- one adder more, which is let go where nine are kept
+pub holds_more : (kept after xs : List Adder) (a : Adder) → Holds kept xs → (length kept < 9 → after ≡ kept ++ a ∷ []) → (9 ≤ length kept → after ≡ kept) → Holds after (xs ++ a ∷ [])
+holds_more kept after xs a h room full =
+    let count = ap length h ∙ length-take 9 xs in
+    ⊎_elim
+    (λ few.
+    let all = h ∙ take_all 9 xs (omega arith) in
+    let longer = length_push xs a in
+    room (omega arith) ∙ ap (λ l. l ++ a ∷ []) all ∙ sym (take_all 9 (xs ++ a ∷ []) (omega arith)))
+    (λ (many : 9 ≤ length xs). full (omega arith) ∙ h ∙ sym (take-append-le 9 xs (a ∷ []) many))
+    (cases_lt (length xs) 9)

@@ -3,12 +3,14 @@ use Rattle.std.proofs.Common.{◌≡◌, ℕ, zero, suc, ◌+◌, ◌*◌, ◌�
 use borrow.Author.Tests.{eqb-false}
 use Rattle.std.proofs.lemmas.List.{take_more, take-append-drop}
 use Rattle.std.proofs.lemmas.Bool.{cond_both}
+use Rattle.std.proofs.lemmas.Option.{none-some, slice_get-get_or}
+use Rattle.std.specs.Prelude.{slice_get}
 use Rattle.adders.specs.declared.wiring.Operand.{Operand}
 use Rattle.adders.specs.declared.wiring.Adder.{Adder}
 use Rattle.adders.specs.declared.wiring.Sign.{Sign}
 use Rattle.adders.specs.declared.wiring.Sign.TheVariants.{Plus}
 use Rattle.lines.specs.declared.scan.Symbol.{Symbol}
-use Rattle.lines.specs.declared.scan.Symbol.TheVariants.{Digit, Dot, Mark, Space, Other}
+use Rattle.lines.specs.declared.scan.Symbol.TheVariants.{Digit, Dot, Mark, Space}
 use Rattle.lines.specs.declared.scan.Number.{Number}
 use Rattle.lines.specs.declared.scan.Number.TheVariants.{Empty, Open, Full}
 use Rattle.lines.specs.declared.scan.Front.{Front}
@@ -16,10 +18,11 @@ use Rattle.lines.specs.declared.scan.Front.TheVariants.{Nothing, LeftSource, Lef
 use Rattle.lines.specs.declared.scan.Part.{Part}
 use Rattle.lines.specs.declared.scan.Part.TheVariants.{Key, Body}
 use Rattle.lines.specs.declared.scan.Move.{Move}
-use Rattle.lines.specs.declared.scan.Move.TheVariants.{On, Done, Broken}
-use Rattle.lines.specs.Form.{Decimal, one, two, OperandForm, operand, mark, AdderForm, adder, AddersForm, none, more, key, Line, line, Form, Viable}
-use Rattle.lines.specs.Scan.{symbol, push, value, grown, after_dot, after_mark, after_space, closed, ended, on_symbol, on_key, step, final, Small, Sound}
-use Rattle.lines.proofs.Runs.{State, at, dead, moved, next, run, start, run_append, run_dead, Means, means, digit, digit_open, run_line}
+use Rattle.lines.specs.declared.scan.Move.TheVariants.{On, Done}
+use Rattle.lines.specs.Form.{Decimal, one, two, OperandForm, operand, mark, AdderForm, adder, AddersForm, none, more, key, Line, line, Form}
+use Rattle.forms.specs.Breaking.{Viable}
+use Rattle.lines.specs.Scan.{symbol, push, value, grown, after_dot, after_mark, after_space, closed, ended, on_symbol, on_key, step, final, on_byte, keyed, State, at, dead, moved, next, run, start}
+use Rattle.lines.proofs.Runs.{run_append, run_dead, Means, ByteMeans, means, digit, digit_open, run_line}
 
 -- the bytes of a number as far as it is read
 data Digits : Number → List ℕ → Type 0 where
@@ -69,10 +72,10 @@ valued nought = one {d = 0} (omega arith)
 valued (both a b c) = two a b c
 
 -- a part with one byte more
-abbrev Moved : Move → List ℕ → Type 0
-Moved (On q) t = Tail q t
-Moved (Done a) t = (u : List ℕ) × AdderForm a u × (t ≡ u ++ 32 ∷ [])
-Moved Broken t = Unit {0}
+abbrev Moved : Option Move → List ℕ → Type 0
+Moved (Some (On q)) t = Tail q t
+Moved (Some (Done a)) t = (u : List ℕ) × AdderForm a u × (t ≡ u ++ 32 ∷ [])
+Moved None t = Unit {0}
 
 growing : {f : Front} {p : List ℕ} (o : Option Number) (m : List ℕ) → Before f p → Grown o m → Moved (grown f o) (p ++ m)
 growing (Some k) m b h = tail b h
@@ -103,7 +106,6 @@ close_step w m b (Digit d) x h e = tt
 close_step {f} {p} w m b Dot x h e = subst (λ c. Moved (after_dot f w) ((p ++ m) ++ c ∷ [])) (sym e) (dot_step w m x h)
 close_step {f} {p} w m b (Mark g) x h e = subst (λ c. Moved (after_mark g f w) ((p ++ m) ++ c ∷ [])) (sym e) (mark_step g w m x h)
 close_step {f} {p} w m b Space x h e = subst (λ c. Moved (after_space f w) ((p ++ m) ++ c ∷ [])) (sym e) (space_step w m x h)
-close_step w m b Other x h e = tt
 
 end_step : {f : Front} {p : List ℕ} (v : Option ℕ) (m : List ℕ) (b : ℕ) (y : Symbol) → Before f p → Valued v m → Means y b → Moved (ended f v y) ((p ++ m) ++ b ∷ [])
 unfolding Valued
@@ -117,10 +119,13 @@ symbol_step {f} {n} {p} {m} b (Digit d) x h e =
 symbol_step {f} {n} {p} {m} b Dot x h e = end_step (value n) m b Dot x (valued h) e
 symbol_step {f} {n} {p} {m} b (Mark g) x h e = end_step (value n) m b (Mark g) x (valued h) e
 symbol_step {f} {n} {p} {m} b Space x h e = end_step (value n) m b Space x (valued h) e
-symbol_step {f} {n} {p} {m} b Other x h e = end_step (value n) m b Other x (valued h) e
+
+byte_step : {f : Front} {n : Number} {p m : List ℕ} (b : ℕ) (y : Option Symbol) → Before f p → Digits n m → ByteMeans y b → Moved (on_byte f n y) ((p ++ m) ++ b ∷ [])
+byte_step b (Some y) x h e = symbol_step b y x h e
+byte_step b None x h e = tt
 
 tail_step : {p : Part} {t : List ℕ} → Tail p t → (b : ℕ) → Moved (step p b) (t ++ b ∷ [])
-tail_step (tail x h) b = symbol_step b (symbol b) x h (means b)
+tail_step (tail x h) b = byte_step b (symbol b) x h (means b)
 
 -- the bytes that lead to a state
 data Text : List Adder → Part → List ℕ → Type 0 where
@@ -136,23 +141,27 @@ adders_append none b = b
 adders_append {xs} {ys} {ts} {us} (more {a = a} {xs = xs'} {t = t} {ts = ts'} x y) b =
     subst (AddersForm (a ∷ (xs' ++ ys))) (sym (append_assoc t (32 ∷ ts') us)) (more x (adders_append y b))
 
-body_step : {xs : List Adder} {ts : List ℕ} (t : List ℕ) (b : ℕ) (m : Move) → AddersForm xs ts → Moved m (t ++ b ∷ []) → Kept (moved xs m) ((key ++ (ts ++ t)) ++ b ∷ [])
-body_step {xs} {ts} t b (On q) f h = subst (Text xs q) (ap (λ l. key ++ l) (sym (append_assoc ts t (b ∷ [])))) (in_body f h)
-body_step {xs} {ts} t b (Done a) f h =
+body_step : {xs : List Adder} {ts : List ℕ} (t : List ℕ) (b : ℕ) (m : Option Move) → AddersForm xs ts → Moved m (t ++ b ∷ []) → Kept (moved xs m) ((key ++ (ts ++ t)) ++ b ∷ [])
+body_step {xs} {ts} t b (Some (On q)) f h = subst (Text xs q) (ap (λ l. key ++ l) (sym (append_assoc ts t (b ∷ [])))) (in_body f h)
+body_step {xs} {ts} t b (Some (Done a)) f h =
     subst (Text (xs ++ a ∷ []) (Body Nothing Empty))
     (ap (λ l. key ++ l) (append-nil _ ∙ ap (λ l. ts ++ l) (sym h.2) ∙ sym (append_assoc ts t (b ∷ []))))
     (in_body (adders_append f (more h.1 none)) (fresh nothing))
-body_step t b Broken f h = tt
+body_step t b None f h = tt
 
 key_step : (k b : ℕ) → k ≤ 5 → Kept (moved [] (on_key k b)) (take k key ++ b ∷ [])
 key_step k b h =
-    cond_both (eqb b (get_or key k 0)) _ Broken (λ m. Kept (moved [] m) (take k key ++ b ∷ []))
+    let c = get_or key k 0 in
+    let there : slice_get key k ≡ Some c = slice_get-get_or key k 0 (omega arith) in
+    let Goes = λ (m : Option Move). Kept (moved [] m) (take k key ++ b ∷ []) in
+    subst (λ o. Goes (keyed k b o)) (sym there)
+    (cond_both (eqb b c) _ None Goes
     (λ e.
-    let more : take k key ++ b ∷ [] ≡ take (k + 1) key = ap (λ c. take k key ++ c ∷ []) (eqb-true b _ e) ∙ sym (take_more key k 0 (omega arith)) in
-    cond_both (eqb k 5) (On (Body Nothing Empty)) (On (Key (k + 1))) (λ m. Kept (moved [] m) (take k key ++ b ∷ []))
-    (λ f. subst (Text [] (Body Nothing Empty)) (ap (λ j. take (j + 1) key) (sym (eqb-true k 5 f)) ∙ sym more) (in_body none (fresh nothing)))
-    (λ f. subst (Text [] (Key (k + 1))) (sym more) (in_key (omega (arith, eqb-false k 5 f)))))
-    (λ e. tt)
+    let more : take k key ++ b ∷ [] ≡ take (k + 1) key = ap (λ d. take k key ++ d ∷ []) (eqb-true b _ e) ∙ sym (take_more key k 0 (omega arith)) in
+    cond_both (eqb (k + 1) 6) (Body Nothing Empty) (Key (k + 1)) (λ q. Text [] q (take k key ++ b ∷ []))
+    (λ f. subst (Text [] (Body Nothing Empty)) (ap (λ j. take j key) (sym (eqb-true (k + 1) 6 f)) ∙ sym more) (in_body none (fresh nothing)))
+    (λ f. subst (Text [] (Key (k + 1))) (sym more) (in_key (omega (arith, eqb-false (k + 1) 6 f)))))
+    (λ e. tt))
 
 text_step : {xs : List Adder} {p : Part} {bs : List ℕ} → Text xs p bs → (b : ℕ) → Kept (next (at xs p) b) (bs ++ b ∷ [])
 text_step (in_key {k = k} h) b = key_step k b h
@@ -217,7 +226,7 @@ finish_tail (tail (right_source {l = l} {g = g} {s = s} a c) h) =
     last_adder (f.more_digits ++ codes " 0") (record { left = l; sign = g; right = record { source = s; shift = f.total } }) _
     (adder a (operand c f.is)) (simp append_assoc)
 
-text_viable : {xs : List Adder} {p : Part} {bs : List ℕ} → Text xs p bs → Viable bs
+text_viable : {xs : List Adder} {p : Part} {bs : List ℕ} → Text xs p bs → Viable Form bs
 text_viable (in_key {k = k} h) =
     (drop k key ++ 48 ∷ [], ([], 0, subst (Line [] 0) (ap (λ l. l ++ 48 ∷ []) (sym (take-append-drop k key)) ∙ append_assoc (take k key) (drop k key) (48 ∷ [])) (line none zero_decimal)))
 text_viable (in_body {xs = xs} {ts = ts} {t = t} f h) =
@@ -234,27 +243,22 @@ text_viable (in_body {xs = xs} {ts = ts} {t = t} f h) =
 
 -- What the run says of the form.
 
-pub viable : (bs : List ℕ) (xs : List Adder) (p : Part) → run start bs ≡ at xs p → Viable bs
+pub viable : (bs : List ℕ) (xs : List Adder) (p : Part) → run start bs ≡ at xs p → Viable Form bs
 viable bs xs p e = text_viable (subst (λ s. Kept s bs) e (kept bs))
 
-dead_at : {xs : List Adder} {p : Part} → dead ≡ at xs p → ⊥
-dead_at e = let z : ◌≡◌ {A = ℕ} 0 1 = cc in omega arith
-
-pub not_viable : (bs : List ℕ) → run start bs ≡ dead → Viable bs → ⊥
+pub not_viable : (bs : List ℕ) → run start bs ≡ dead → Viable Form bs → ⊥
 not_viable bs e v =
     let r = run_line v.1.2 in
-    dead_at (sym (run_dead v.0) ∙ ap (λ s. run s v.0) (sym e) ∙ sym (run_append start bs v.0) ∙ r.runs)
-
-none_some : {n : ℕ} → None ≡ Some n → ⊥
-none_some e = let z : ◌≡◌ {A = ℕ} 0 1 = cc in omega arith
+    let same = sym (run_dead v.0) ∙ ap (λ s. run s v.0) (sym e) ∙ sym (run_append start bs v.0) ∙ r.runs in
+    cc same
 
 ending : {xs : List Adder} {p : Part} {bs : List ℕ} (out : ℕ) → Text xs p bs → final p ≡ Some out → Line xs out bs
 unfolding Valued
-ending out (in_key h) g = absurd (none_some g)
+ending out (in_key h) g = cc g
 ending out (in_body a (tail {m = m} nothing h)) g = line a (subst (λ v. Valued v m) g (valued h))
-ending out (in_body a (tail (left_source x) h)) g = absurd (none_some g)
-ending out (in_body a (tail (left x) h)) g = absurd (none_some g)
-ending out (in_body a (tail (right_source x y) h)) g = absurd (none_some g)
+ending out (in_body a (tail (left_source x) h)) g = cc g
+ending out (in_body a (tail (left x) h)) g = cc g
+ending out (in_body a (tail (right_source x y) h)) g = cc g
 
 -- a line that may end where it does says the adders that were read
 pub said : (bs : List ℕ) (xs : List Adder) (p : Part) (out : ℕ) → run start bs ≡ at xs p → final p ≡ Some out → Line xs out bs
@@ -265,21 +269,7 @@ end (at xs p) = final p
 end dead = None
 
 pub unsaid : (bs : List ℕ) (xs : List Adder) (p : Part) → run start bs ≡ at xs p → final p ≡ None → Form bs → ⊥
-unsaid bs xs p e f v = let r = run_line v.2 in none_some (sym f ∙ ap end (sym e ∙ r.runs) ∙ r.is)
-
--- what the reader needs of the part where it stands
-pub sound : (bs : List ℕ) (xs : List Adder) (p : Part) → run start bs ≡ at xs p → Sound p
-sound bs xs p e = text_sound (subst (λ s. Kept s bs) e (kept bs))
-  where
-    small : {n : Number} {m : List ℕ} → Digits n m → Small n
-    small none_yet = tt
-    small (single a b) = b
-    small nought = tt
-    small (both a b c) = tt
-
-    text_sound : {xs : List Adder} {p : Part} {bs : List ℕ} → Text xs p bs → Sound p
-    text_sound (in_key h) = omega arith
-    text_sound (in_body a (tail x h)) = small h
+unsaid bs xs p e f v = let r = run_line v.2 in none-some _ (sym f ∙ ap end (sym e ∙ r.runs) ∙ r.is)
 
 -- a line says one list of adders and one output shift
 pub says_one : {xs ys : List Adder} {m n : ℕ} {bs : List ℕ} → Line xs m bs → Line ys n bs → (xs ≡ ys) × (m ≡ n)

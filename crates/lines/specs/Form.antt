@@ -1,9 +1,8 @@
 -- The form of a chain line, as a language of byte strings: which bytes say which adders and output shift.
 --   Line xs out bs   the bytes bs say the adders xs and the output shift out
---   Viable bs        some line of the form begins with bs
---   BrokenAt bs i    bs has not the form, and breaks it at byte i
 -- Ranges, the number of adders and the length of the line are no part of the form.
-use Rattle.std.specs.Prelude.{◌≡◌, ℕ, ◌+◌, ◌*◌, ◌<◌, ◌≤◌, List, [], ◌∷◌, ◌++◌, length, take, codes, decimal}
+use Rattle.std.specs.Prelude.{◌≡◌, ℕ, ◌+◌, ◌*◌, ◌≤◌, List, [], ◌∷◌, ◌++◌, codes, decimal}
+use Rattle.forms.specs.Breaking.{BrokenAt}
 use Rattle.adders.specs.declared.wiring.Operand.{Operand}
 use Rattle.adders.specs.declared.wiring.Adder.{Adder}
 use Rattle.adders.specs.declared.wiring.Sign.{Sign}
@@ -42,16 +41,6 @@ pub data Line (xs : List Adder) (out : ℕ) : List ℕ → Type 0 where
 abbrev pub Form : List ℕ → Type 0
 Form bs = (xs : List Adder) × (out : ℕ) × Line xs out bs
 
-abbrev pub Viable : List ℕ → Type 0
-Viable bs = (rest : List ℕ) × Form (bs ++ rest)
-
--- what stands before byte i can be continued to a line of the form, what stands up to and with it cannot; i is the length where bs stops short
-pub record BrokenAt (bs : List ℕ) (i : ℕ) : Type 0 where
-  pub within : i ≤ length bs
-  pub before : Viable (take i bs)
-  pub after : i < length bs → Viable (take (i + 1) bs) → ⊥
-  pub broken : Form bs → ⊥
-
 -- The line that adders and an output shift are written as.
 abbrev pub operand_text : Operand → List ℕ
 operand_text o = decimal o.source ++ 46 ∷ decimal o.shift
@@ -70,4 +59,4 @@ line_text xs out = key ++ (adders_text xs ++ decimal out)
 pub record OneReading : Type 0 where
   pub says_one : {xs ys : List Adder} {m n : ℕ} {bs : List ℕ} → Line xs m bs → Line ys n bs → (xs ≡ ys) × (m ≡ n)
   pub written : {xs : List Adder} {out : ℕ} {bs : List ℕ} → Line xs out bs → bs ≡ line_text xs out
-  pub breaks_once : (bs : List ℕ) (i j : ℕ) → BrokenAt bs i → BrokenAt bs j → i ≡ j
+  pub breaks_once : (bs : List ℕ) (i j : ℕ) → BrokenAt Form bs i → BrokenAt Form bs j → i ≡ j

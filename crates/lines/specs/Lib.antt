@@ -1,3 +1,4 @@
 pub mod Form
 pub mod Drafts
 pub mod Scan
+pub mod Reading

@@ -2,7 +2,7 @@
 #![tactic(auto)]
 
 mod draft;
+mod reader;
 mod scan;
 
-pub use draft::Draft;
-pub use draft::reading::lines_have_one_reading;
+pub use draft::{Draft, lines_have_one_reading};

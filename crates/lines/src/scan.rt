@@ -1,24 +1,24 @@
 // The reader of a line, one byte at a time.
-ghost use Rattle.std.specs.Prelude.{◌≡◌, ◌<◌, ◌≤◌};
-ghost use Rattle.lines.specs.Scan.{symbol, push, value, closed, final, step, on_symbol, on_key, Small, Sound, Digital};
+ghost use Rattle.std.specs.Prelude.{◌≡◌};
+ghost use Rattle.lines.specs.Scan.{symbol, push, value, closed, final, step, on_symbol, on_key};
 
 use adders::{Adder, Operand, Sign};
+use forms::Digit;
 
 // What a byte is to the line.
 #[derive(Clone, Copy)]
 pub(crate) enum Symbol {
-    Digit(u8),
+    Digit(Digit),
     Dot,
     Mark(Sign),
     Space,
-    Other,
 }
 
 // A number as far as it is read: nothing yet, one digit that may be followed by another, or all of it.
 #[derive(Clone, Copy)]
 pub(crate) enum Number {
     Empty,
-    Open(u8),
+    Open(Digit),
     Full(u8),
 }
 
@@ -34,7 +34,7 @@ pub(crate) enum Front {
 // Where in the line the reader stands: after so many bytes of the key, or in a number.
 #[derive(Clone, Copy)]
 pub(crate) enum Part {
-    Key(u8),
+    Key(usize),
     Body(Front, Number),
 }
 
@@ -43,35 +43,33 @@ pub(crate) enum Part {
 pub(crate) enum Move {
     On(Part),
     Done(Adder),
-    Broken,
 }
 
 const KEY: [u8; 6] = *b"chain=";
 
-fn symbol_of(byte: u8) -> Symbol
-    ensures is { result ≡ symbol byte }
-    ensures digital { Digital result }
-{
-    match byte {
-        b'0'..=b'9' => Symbol::Digit(byte - b'0'),
-        b'.' => Symbol::Dot,
-        b'+' => Symbol::Mark(Sign::Plus),
-        b'-' => Symbol::Mark(Sign::Minus),
-        b' ' => Symbol::Space,
-        _ => Symbol::Other,
+impl Symbol {
+    fn of(byte: u8) -> Option<Symbol>
+        ensures { result ≡ symbol byte }
+    {
+        match byte {
+            b'.' => Some(Symbol::Dot),
+            b'+' => Some(Symbol::Mark(Sign::Plus)),
+            b'-' => Some(Symbol::Mark(Sign::Minus)),
+            b' ' => Some(Symbol::Space),
+            _ => Digit::of(byte).map(Symbol::Digit),
+        }
     }
 }
 
 impl Number {
     // One digit more; a zero is a number of its own.
-    fn push(self, digit: u8) -> Option<Number>
-        requires { (Small self) × (digit ≤ 9) }
+    fn push(self, digit: Digit) -> Option<Number>
         ensures { result ≡ push self digit }
     {
         match self {
-            Number::Empty if digit == 0 => Some(Number::Full(0)),
+            Number::Empty if digit.value() == 0 => Some(Number::Full(0)),
             Number::Empty => Some(Number::Open(digit)),
-            Number::Open(n) => Some(Number::Full(10 * n + digit)),
+            Number::Open(tens) => Some(Number::Full(10 * tens.value() + digit.value())),
             Number::Full(_) => None,
         }
     }
@@ -81,37 +79,30 @@ impl Number {
     {
         match self {
             Number::Empty => None,
-            Number::Open(n) => Some(n),
-            Number::Full(n) => Some(n),
+            Number::Open(digit) => Some(digit.value()),
+            Number::Full(number) => Some(number),
         }
     }
 }
 
 impl Front {
     // What follows where the number after this front is `n` and `symbol` ends it.
-    fn close(self, n: u8, symbol: Symbol) -> Move
+    fn close(self, n: u8, symbol: Symbol) -> Option<Move>
         ensures { result ≡ closed self n symbol }
     {
-        match (self, symbol) {
-            (Front::Nothing, Symbol::Dot) => Move::On(Part::Body(
-                Front::LeftSource(n),
-                Number::Empty,
-            )),
-            (Front::LeftSource(source), Symbol::Mark(sign)) => Move::On(Part::Body(
-                Front::Left(Operand { source, shift: n }, sign),
-                Number::Empty,
-            )),
-            (Front::Left(left, sign), Symbol::Dot) => Move::On(Part::Body(
-                Front::RightSource(left, sign, n),
-                Number::Empty,
-            )),
-            (Front::RightSource(left, sign, source), Symbol::Space) => Move::Done(Adder {
-                left,
-                sign,
-                right: Operand { source, shift: n },
-            }),
-            _ => Move::Broken,
-        }
+        let next = match (self, symbol) {
+            (Front::Nothing, Symbol::Dot) => Front::LeftSource(n),
+            (Front::LeftSource(source), Symbol::Mark(sign)) => {
+                Front::Left(Operand { source, shift: n }, sign)
+            }
+            (Front::Left(left, sign), Symbol::Dot) => Front::RightSource(left, sign, n),
+            (Front::RightSource(left, sign, source), Symbol::Space) => {
+                let right = Operand { source, shift: n };
+                return Some(Move::Done(Adder { left, sign, right }));
+            }
+            _ => return None,
+        };
+        Some(Move::On(Part::Body(next, Number::Empty)))
     }
 }
 
@@ -126,44 +117,37 @@ impl Part {
         }
     }
 
-    // What follows where the reader stands here and finds `byte`.
-    pub(crate) fn step(self, byte: u8) -> Move
-        requires { Sound self }
+    // What follows where the reader stands here and finds `byte`, `None` where no line goes on so.
+    pub(crate) fn step(self, byte: u8) -> Option<Move>
         ensures { result ≡ step self byte }
     {
         match self {
             Part::Key(k) => after_key(k, byte),
-            Part::Body(front, number) => after_number(front, number, symbol_of(byte)),
+            Part::Body(front, number) => after_number(front, number, Symbol::of(byte)?),
         }
     }
 }
 
-fn after_key(k: u8, byte: u8) -> Move
-    requires { k < 6 }
+fn after_key(k: usize, byte: u8) -> Option<Move>
     ensures { result ≡ on_key k byte }
 {
-    if byte != KEY[k as usize] {
-        return Move::Broken;
+    if byte != *KEY.get(k)? {
+        return None;
     }
-    if k == 5 {
-        Move::On(Part::Body(Front::Nothing, Number::Empty))
+    let read = k + 1;
+    Some(Move::On(if read == KEY.len() {
+        Part::Body(Front::Nothing, Number::Empty)
     } else {
-        Move::On(Part::Key(k + 1))
-    }
+        Part::Key(read)
+    }))
 }
 
-fn after_number(front: Front, number: Number, symbol: Symbol) -> Move
-    requires { (Small number) × (Digital symbol) }
+fn after_number(front: Front, number: Number, symbol: Symbol) -> Option<Move>
     ensures { result ≡ on_symbol front number symbol }
 {
     if let Symbol::Digit(digit) = symbol {
-        return match number.push(digit) {
-            Some(number) => Move::On(Part::Body(front, number)),
-            None => Move::Broken,
-        };
+        let number = number.push(digit)?;
+        return Some(Move::On(Part::Body(front, number)));
     }
-    match number.value() {
-        Some(n) => front.close(n, symbol),
-        None => Move::Broken,
-    }
+    front.close(number.value()?, symbol)
 }

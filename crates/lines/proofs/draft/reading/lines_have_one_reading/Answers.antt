@@ -1,5 +1,0 @@
-use Rattle.lines.proofs.Readings.{one_reading}
-use Rattle.lines.proofs.draft.reading.lines_have_one_reading.Goals as goal
-
-pub returns : goal.returns
-returns c = one_reading

@@ -1,0 +1,57 @@
+// Reads a line of the form.
+ghost use Rattle.lines.specs.Form.{Form};
+ghost use Rattle.lines.specs.Drafts.{Says};
+ghost use Rattle.lines.specs.Reading.{Reached};
+
+use crate::draft::Draft;
+use crate::scan::{Front, Move, Number, Part};
+use adders::AdderList;
+use forms::Scanner;
+
+// A line as far as it is read: the first nine of its adders, and where the reader stands.
+#[derive(Clone, Copy)]
+pub(crate) struct Reader {
+    adders: AdderList<9>,
+    part: Part,
+}
+
+impl Scanner for Reader {
+    type Said = Draft;
+
+    ghost Says = { Says };
+
+    ghost Form = { Form };
+
+    ghost Reached = { Reached };
+
+    fn start() -> Reader {
+        Reader {
+            adders: AdderList::new(),
+            part: Part::Key(0),
+        }
+    }
+
+    fn step(self, byte: u8) -> Option<Reader> {
+        match self.part.step(byte)? {
+            Move::On(part) => Some(Reader { part, ..self }),
+            Move::Done(adder) => {
+                let mut adders = self.adders;
+                // a draft keeps nine: those past them are let go
+                let _ = adders.push_within_capacity(adder);
+                Some(Reader {
+                    adders,
+                    part: Part::Body(Front::Nothing, Number::Empty),
+                })
+            }
+        }
+    }
+
+    fn end(self) -> Option<Draft> {
+        Some(Draft {
+            adders: self.adders,
+            shift: self.part.end()?,
+        })
+    }
+
+    ghost viable = { λ bs reader reached. reached.viable };
+}
