@@ -25,10 +25,8 @@ impl Chain {
         if line.len() > MOST_BYTES {
             return Err(Refusal::LineTooLong);
         }
-        match Draft::read(line) {
-            Ok(draft) => Chain::new(draft.adders(), draft.shift()),
-            Err(place) => Err(Refusal::BrokenForm(place)),
-        }
+        let draft = Draft::read(line)?;
+        Chain::new(draft.adders(), draft.shift())
     }
 
     // The chain of these adders and this output shift, or the first rule that they break.
