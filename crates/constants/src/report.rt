@@ -29,15 +29,8 @@ impl fmt::Display for Report {
 
     fn fmt<W: fmt::Write>(&self, f: &mut fmt::Formatter<W>) -> fmt::Result {
         match self.answer {
-            Ok(chain) => {
-                let constant = chain.constant();
-                write!(f, "constant={constant}")
-            }
-            Err(refusal) => {
-                let fault = refusal.number();
-                let place = refusal.place();
-                write!(f, "fault={fault}\nplace={place}")
-            }
+            Ok(chain) => write!(f, "constant={}", chain.constant()),
+            Err(refusal) => write!(f, "{refusal}"),
         }
     }
 }

@@ -35,7 +35,7 @@ impl Chain {
         ensures only { Only (Judged adders.now shift) result }
         ensures exactly { Decides (is_ok result) (Keeps adders.now shift) }
     {
-        let adders = AdderList::from_slice(adders).ok_or(Refusal::TooManyAdders)?;
+        let adders = AdderList::try_from(adders)?;
         constant_of(&adders, shift)?;
         Ok(Chain { adders, shift })
     }
