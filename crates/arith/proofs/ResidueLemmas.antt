@@ -5,17 +5,15 @@ use Rattle.std.proofs.lemmas.Nat.{mul-mod_first, mul-mod_second, shl_whole}
 use Rattle.arith.specs.Operations.{doubled}
 use Rattle.arith.specs.Times.{twice}
 use Rattle.arith.specs.Moduli.{same_below, same_remainder, doubled_number}
-use Rattle.arith.specs.Remainders.{Modular, remainder, residue, residues, modular_positive}
-
--- a remainder means what was reduced
-pub residue_reduced : {n : ℕ} (b : Modular n) (k r : ℕ) → r ≡ k % n → residue b r ≡ remainder n (modular_positive b) k
-residue_reduced {n} b k r e = same_remainder n (modular_positive b) r k (ap (λ i. i % n) e ∙ mod-mod k n)
+use Rattle.arith.specs.Remainders.{Modular, residue, residues, modular_positive}
 
 -- a product with a power of two is so many doublings
 pub residue_shifted : {n : ℕ} (b : Modular n) (x s r : ℕ) → r ≡ (x * 2 ^ s) % n → residue b r ≡ doubled (residues b) s (residue b x)
 residue_shifted {n} b x s r e =
-    residue_reduced b (x * 2 ^ s) r e
-    ∙ same_below _ _ (sym (doubled_number n (modular_positive b) s (residue b x) ∙ mul-mod_first x (2 ^ s) n))
+    same_below _ _ (
+    ap (λ k. k % n) e
+    ∙ mod-mod (x * 2 ^ s) n
+    ∙ sym (doubled_number n (modular_positive b) s (residue b x) ∙ mul-mod_first x (2 ^ s) n))
 
 -- the first product fits 64 bits
 pub shifted_whole : (m x k f : ℕ) → k ≡ x → x < 2 ^ 32 → f ≤ 32 → k * 2 ^ f % 2 ^ 64 % m ≡ (x * 2 ^ f) % m
@@ -29,4 +27,4 @@ doubled_again m x t number e =
     ∙ ap (λ i. i % m) (rw add-one (let both = twice x t in omega arith))
 
 -- what the methods of residues cite
-pub ruleset residues_compute = (residue_reduced, residue_shifted, shifted_whole, doubled_again)
+pub ruleset residues_compute = (same_remainder, mod-mod, residue_shifted, shifted_whole, doubled_again)

@@ -1,5 +1,5 @@
 -- What the operations of words come to.
-use Rattle.std.specs.Prelude.{◌≡◌, ℕ, ◌+◌, ◌-◌, ◌*◌, ◌%◌, ◌^◌, ◌<◌, ◌≤◌, Option, Some, None, ℤ, pos, negsuc, FitsSigned, unwrap_or}
+use Rattle.std.specs.Prelude.{◌≡◌, ℕ, ◌-◌, ◌*◌, ◌%◌, ◌^◌, ◌<◌, ◌≤◌, Option, Some, None, ℤ, pos, negsuc, FitsSigned, unwrap_or}
 use Rattle.std.specs.Int.{w64, int_shl}
 use Rattle.std.specs.Option.{SomeIff}
 use Rattle.std.proofs.Common.{refl, sym, ap, ◌∙◌, arith, mod-lt, mul_assoc, of_z, to_z}
@@ -13,21 +13,13 @@ use Rattle.arith.specs.Moduli.{same_below, doubled_number}
 use Rattle.arith.specs.Integers.{bits_again}
 
 -- the bits of an integer that a word holds are those that it is stored by
-bits_of_word : (z : ℤ) → FitsSigned w64 z → of_z w64 z ≡ word_bits z
+pub bits_of_word : (z : ℤ) → FitsSigned w64 z → of_z w64 z ≡ word_bits z
 bits_of_word (pos n) f = omega (arith, ints)
 bits_of_word (negsuc n) f = omega (arith, ints)
 
 -- a word that is stored by the low 64 bits of a number means that number
-stored : (k m : ℕ) → k ≡ m → word_meaning (to_z w64 (k % 2 ^ 64)) ≡ remainder (2 ^ 64) bits_positive m
+pub stored : (k m : ℕ) → k ≡ m → word_meaning (to_z w64 (k % 2 ^ 64)) ≡ remainder (2 ^ 64) bits_positive m
 stored k m e = same_below _ _ (bits_again (k % 2 ^ 64) (mod-lt k bits_positive) ∙ ap (λ n. n % 2 ^ 64) e)
-
--- a wrapping sum and a wrapping difference, as the code has them
-module _ (a b : ℤ) (f : FitsSigned w64 a) (g : FitsSigned w64 b) where
-  pub word_sum : word_meaning (to_z w64 ((of_z w64 a + of_z w64 b) % 2 ^ 64)) ≡ words.plus (word_meaning a) (word_meaning b)
-  word_sum = stored _ _ (let p = bits_of_word a f in let q = bits_of_word b g in cc)
-
-  pub word_difference : word_meaning (to_z w64 ((of_z w64 a + (2 ^ 64 - of_z w64 b)) % 2 ^ 64)) ≡ words.minus (word_meaning a) (word_meaning b)
-  word_difference = stored _ _ (let p = bits_of_word a f in let q = bits_of_word b g in cc)
 
 -- a shift of fewer places than the width
 shifted_within : (a : ℤ) (s : ℕ) → FitsSigned w64 a → word_meaning (int_shl w64 a s) ≡ doubled words s (word_meaning a)
@@ -46,18 +38,13 @@ shifted_out a s h =
     same_below _ _ (sym (doubled_number (2 ^ 64) bits_positive s (word_meaning a) ∙ ap (λ n. n % 2 ^ 64) split ∙ mul-mod_left (bits * 2 ^ (s - 64)) (2 ^ 64)))
 
 -- any shift, by what a checked one answers
-shifted_word : (a : ℤ) (s : ℕ) (o : Option ℤ) → FitsSigned w64 a → SomeIff o (s < 64) (int_shl w64 a s) → word_meaning (unwrap_or o (pos 0)) ≡ doubled words s (word_meaning a)
+pub shifted_word : (a : ℤ) (s : ℕ) (o : Option ℤ) → FitsSigned w64 a → SomeIff o (s < 64) (int_shl w64 a s) → word_meaning (unwrap_or o (pos 0)) ≡ doubled words s (word_meaning a)
 shifted_word a s None f e = shifted_out a s (omega (arith, e))
 shifted_word a s (Some v) f e = ap word_meaning e.1 ∙ shifted_within a s f
-
--- the same, as the code has its numbers
-pub word_shifted : (a r : ℤ) (s t : ℕ) (o : Option ℤ) → FitsSigned w64 a → FitsSigned w64 r → t ≡ s → SomeIff o (t < 64) (int_shl w64 (to_z w64 (of_z w64 a)) t) → r ≡ unwrap_or o (pos 0) → word_meaning (to_z w64 (of_z w64 r)) ≡ doubled words s (word_meaning a)
-word_shifted a r s t o f g e p q =
-    ap word_meaning (to_z-of_z w64 r g ∙ q) ∙ shifted_word a s o f (simp (to_z-of_z, e) at p)
 
 -- the word 0 is the neutral one
 pub word_neutral : word_meaning (pos 0) ≡ words.neutral
 word_neutral = same_below _ _ refl
 
 -- what the methods of words cite
-pub ruleset words_compute = (word_neutral, word_sum, word_difference, word_shifted)
+pub ruleset words_compute = (word_neutral, stored, bits_of_word, shifted_word, to_z-of_z)

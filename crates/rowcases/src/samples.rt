@@ -79,7 +79,8 @@ pub fn lengths_agree() -> bool {
     };
     let input = [1, 2].map(Word::from);
     let mut output = [Word::from(5); 3];
-    run_all(&row, &input, &mut output).is_err_and(|refusal| refusal.number() == 27
-        && refusal.place() == 0)
-        && output == [Word::from(5); 3]
+    let Err(refusal) = run_all(&row, &input, &mut output) else {
+        return false;
+    };
+    refusal.number() == 27 && refusal.place() == 0 && output == [Word::from(5); 3]
 }
