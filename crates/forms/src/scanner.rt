@@ -28,6 +28,7 @@ pub trait Scanner: Copy {
     fn end(self) -> Option<Self::Said>
         ensures { (bs : List ℕ) → Reached bs self → MatchOption result (¬ Form bs) (Says bs) };
 
+    // What led here can go on to bytes of the form.
     ghost viable: { (bs : List ℕ) (scanner : Self) → Reached bs scanner → Viable Form bs };
 }
 

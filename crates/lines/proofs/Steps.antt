@@ -28,8 +28,8 @@ reached_start reader part none = reached_at [] reader [] (ap (at []) (sym part))
 run_more : (bs : List ℕ) (b : ℕ) (xs : List Adder) (p : Part) → run start bs ≡ at xs p → (m : Option Move) → step p b ≡ m → run start (bs ++ b ∷ []) ≡ moved xs m
 run_more bs b xs p ran m e = run_append start bs (b ∷ []) ∙ ap (λ s. next s b) ran ∙ ap (moved xs) e
 
-pub step_off : (bs : List ℕ) (xs : List Adder) (p : Part) (b : ℕ) → run start bs ≡ at xs p → step p b ≡ None → Viable Form (bs ++ b ∷ []) → ⊥
-step_off bs xs p b ran e = not_viable (bs ++ b ∷ []) (run_more bs b xs p ran None e)
+pub step_off : (bs : List ℕ) (b : ℕ) (reader : Reader) → Reached bs reader → step reader.part b ≡ None → ¬ Viable Form (bs ++ b ∷ [])
+step_off bs b reader reached e = not_viable (bs ++ b ∷ []) (run_more bs b reached.all reader.part reached.ran None e)
 
 pub step_on : (bs : List ℕ) (b : ℕ) (reader : Reader) (q : Part) → Reached bs reader → step reader.part b ≡ Some (On q) → Reached (bs ++ b ∷ []) (record { adders = reader.adders; part = q })
 step_on bs b reader q reached e = reached_at (bs ++ b ∷ []) _ reached.all (run_more bs b reached.all reader.part reached.ran (Some (On q)) e) reached.holds

@@ -32,7 +32,7 @@ impl Scanner for Reader {
         }
     }
 
-    #[tactic(auto, using(crate::proofs::Steps::step_on, crate::proofs::Steps::step_off))]
+    #[tactic(auto, using(crate::proofs::Steps::step_on))]
     fn step(self, byte: u8) -> Option<Reader> {
         match self.part.step(byte)? {
             Move::On(part) => Some(Reader { part, ..self }),
@@ -48,7 +48,7 @@ impl Scanner for Reader {
         }
     }
 
-    #[tactic(auto, using(crate::proofs::Steps::end_on, crate::proofs::Texts::unsaid))]
+    #[tactic(auto, using(crate::proofs::Steps::end_on))]
     fn end(self) -> Option<Draft> {
         Some(Draft {
             adders: self.adders,

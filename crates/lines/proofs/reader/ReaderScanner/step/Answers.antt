@@ -1,8 +1,13 @@
-use Rattle.std.proofs.Common.{◌≡◌, Some, rules}
+use Rattle.std.proofs.Common.{◌≡◌, Some, None, rules}
 use Rattle.lines.specs.declared.scan.Move.TheVariants.{Done}
 use Rattle.lines.specs.Scan.{step}
-use Rattle.lines.proofs.Steps.{step_done}
+use Rattle.lines.proofs.Steps.{step_off, step_done}
 use Rattle.lines.proofs.reader.ReaderScanner.step.Goals as goal
+
+pub returns-in_err-part : goal.returns-in_err-part
+returns-in_err-part c bs reached =
+    let none : step c.args.self.part c.args.byte ≡ None = search rules in
+    rw c.from_residual.ensures (step_off bs c.args.byte c.args.self reached none)
 
 pub returns-in-Done : goal.returns-in-Done
 returns-in-Done c bs reached =
