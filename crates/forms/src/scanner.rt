@@ -1,5 +1,5 @@
 // Reads bytes of a form, one at a time.
-ghost use Rattle.std.specs.Prelude.{ℕ, List, [], ◌∷◌, ◌++◌, IfSome, IfNone, MatchOption, MatchResult};
+ghost use Rattle.std.specs.Prelude.{ℕ, List, [], ◌∷◌, ◌++◌, MatchOption, MatchResult};
 ghost use Rattle.forms.specs.Breaking.{Viable, BrokenAt};
 
 use crate::error::FormError;
