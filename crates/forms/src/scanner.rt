@@ -1,5 +1,5 @@
 // Reads bytes of a form, one at a time.
-ghost use Rattle.std.specs.Prelude.{ℕ, List, [], ◌∷◌, ◌++◌, IfSome, IfNone, MatchOption, MatchResult};
+ghost use Rattle.std.specs.Prelude.{ℕ, List, [], ◌∷◌, ◌++◌, MatchOption, MatchResult};
 ghost use Rattle.forms.specs.Breaking.{Viable, BrokenAt};
 
 use crate::error::FormError;
@@ -28,6 +28,7 @@ pub trait Scanner: Copy {
     fn end(self) -> Option<Self::Said>
         ensures { (bs : List ℕ) → Reached bs self → MatchOption result (¬ Form bs) (Says bs) };
 
+    // What led here can go on to bytes of the form.
     ghost viable: { (bs : List ℕ) (scanner : Self) → Reached bs scanner → Viable Form bs };
 }
 

@@ -26,12 +26,6 @@ zero_first : (n : ℕ) (cs : List ℕ) → n < 2 ^ 64 → 48 ∷ cs ≡ decimal 
 zero_first zero cs h e = refl
 zero_first (suc n) cs h e = let above = first_decimal (suc n) (omega arith) h in let first : get_or (decimal (suc n)) 0 0 ≡ 48 = ap (λ l. get_or l 0 0) (sym e) in absurd (omega arith)
 
-tail_same : {x y : ℕ} {xs ys : List ℕ} → x ∷ xs ≡ y ∷ ys → xs ≡ ys
-tail_same e = cc
-
-head_same : {x y : ℕ} {xs ys : List ℕ} → x ∷ xs ≡ y ∷ ys → x ≡ y
-head_same e = cc
-
 -- a number in digits is none with a minus
 not_minus : (n : ℕ) (rest : List ℕ) (cs : List ℕ) → n < 2 ^ 64 → decimal n ++ rest ≡ 45 ∷ cs → ⊥
 not_minus n rest cs h e =
@@ -82,7 +76,7 @@ minus_off bs d e zero_is v = let g = begun bs (45 ∷ []) 48 e (subst (λ n. Via
   where
     by : (rest : List ℕ) (z : ℤ) → InWord z → 45 ∷ 48 ∷ rest ≡ signed_decimal z → ⊥
     by rest (pos m) held w = let top = held_above m held in let c = first_digit m 45 (48 ∷ rest) (omega arith) w in omega (arith, c.0)
-    by rest (negsuc m) held w = let top = held_below m held in let n = zero_first (suc m) rest (omega arith) (tail_same w) in omega arith
+    by rest (negsuc m) held w = let top = held_below m held in let n = zero_first (suc m) rest (omega arith) (cc w) in omega arith
 
 -- no digit follows a zero
 pub zero_off : (bs : List ℕ) (d : ℕ) → Integer (pos 0) bs → ¬ Viable Form (bs ++ (48 + d) ∷ [])
@@ -95,7 +89,7 @@ zero_off bs d says v = let g = begun bs (48 ∷ []) (48 + d) (says.written ∙ d
         let one : length (decimal m) ≡ 1 = ap (λ k. length (decimal k)) none ∙ ap length (decimal_digit 0 (omega arith)) in
         let more = ap length w in
         omega arith
-    by rest (negsuc m) held w = let c = head_same w in omega arith
+    by rest (negsuc m) held w = let c : ◌≡◌ {A = ℕ} 48 45 = cc w in omega arith
 
 longer_on : (bs : List ℕ) (z : ℤ) (d : ℕ) → Integer z bs → (z ≡ pos 0 → ⊥) → d ≤ 9 → InWord (longer z d) → Integer (longer z d) (bs ++ (48 + d) ∷ [])
 longer_on bs (pos zero) d says some h held = absurd (some refl)
@@ -121,7 +115,7 @@ longer_held bs z d says v = let g = begun bs (signed_decimal z) (48 + d) says.wr
     by rest (negsuc n) (negsuc m) h held e =
         let low = held_below n h in
         let top = held_below m held in
-        let least = at_least (suc n) (suc m) d rest (omega arith) (omega arith) (tail_same e) in
+        let least = at_least (suc n) (suc m) d rest (omega arith) (omega arith) (cc e) in
         record { least = omega (arith, ints); most = omega (arith, ints) }
 
 pub longer_told : (bs : List ℕ) (z : ℤ) (d : ℕ) (o : Option ℤ) → Integer z bs → (z ≡ pos 0 → ⊥) → d ≤ 9 → SomeIff o (InWord (longer z d)) (longer z d) → Continued (bs ++ (48 + d) ∷ []) o

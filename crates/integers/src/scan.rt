@@ -1,4 +1,4 @@
-// A number as far as it is read, one byte at a time.
+// The reader of a number, one byte at a time.
 ghost use Rattle.std.specs.Prelude.{List, [], ◌∷◌, ◌++◌, ◌+◌, SomeIff, ℕ};
 ghost use Rattle.arith.specs.Words.{InWord};
 ghost use Rattle.integers.specs.Form.{Integer, Form};
@@ -6,6 +6,7 @@ ghost use Rattle.integers.specs.Scan.{Reached, Continued, longer, viable};
 
 use forms::{Digit, Scanner};
 
+// A number as far as it is read: nothing yet, its minus alone, or digits too.
 #[derive(Clone, Copy)]
 pub(crate) enum Part {
     Nothing,
@@ -23,6 +24,7 @@ impl Part {
             Part::Nothing => Some(value),
             Part::Minus if value == 0 => None,
             Part::Minus => Some(-value),
+            // a zero is a number of its own
             Part::Number(0) => None,
             Part::Number(number) => longer(number, digit),
         }

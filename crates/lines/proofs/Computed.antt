@@ -1,5 +1,5 @@
 -- What a line says, computed: for lines that are written out.
-use Rattle.std.proofs.Common.{◌≡◌, ℕ, List, Some, None, Option, refl, subst, arith}
+use Rattle.std.proofs.Common.{◌≡◌, ℕ, List, Some, None, Option, refl, subst}
 use Rattle.std.proofs.lemmas.Option.{none-some}
 use Rattle.adders.specs.declared.wiring.Adder.{Adder}
 use Rattle.lines.specs.declared.scan.Part.{Part}

@@ -24,6 +24,7 @@ impl Scanner for Reader {
 
     ghost Reached = { Reached };
 
+    #[tactic(auto, using(crate::proofs::Steps::reached_start))]
     fn start() -> Reader {
         Reader {
             adders: AdderList::new(),
@@ -31,6 +32,7 @@ impl Scanner for Reader {
         }
     }
 
+    #[tactic(auto, using(crate::proofs::Steps::step_on))]
     fn step(self, byte: u8) -> Option<Reader> {
         match self.part.step(byte)? {
             Move::On(part) => Some(Reader { part, ..self }),
@@ -46,6 +48,7 @@ impl Scanner for Reader {
         }
     }
 
+    #[tactic(auto, using(crate::proofs::Steps::end_on))]
     fn end(self) -> Option<Draft> {
         Some(Draft {
             adders: self.adders,
