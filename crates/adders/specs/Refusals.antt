@@ -1,7 +1,7 @@
 -- The table of refusals: for each case its number and its place.
 --   number  by which the cause is known outside
 --   place   a byte of a line from 0, an adder from 1 with 0 for the output, a line from 1, a length; 0 where there is none to give
-use Rattle.std.specs.Prelude.{ℕ}
+use Rattle.std.specs.Prelude.{ℕ, List, ◌++◌, codes, decimal}
 use Rattle.adders.specs.declared.refusals.Refusal.{Refusal}
 use Rattle.adders.specs.declared.refusals.Refusal.TheVariants as R
 use Rattle.adders.specs.declared.refusals.RowFault.{RowFault}
@@ -45,3 +45,7 @@ refusal_entry (R.InputRepeated line) = entry 43 line
 refusal_entry (R.InputAbsent line) = entry 44 line
 refusal_entry (R.RowBroken line fault) = entry 45 line
 refusal_entry (R.InputUnselected line) = entry 46 line
+
+-- how a refusal is printed
+abbrev pub refusal_text : Refusal → List ℕ
+refusal_text r = codes "fault=" ++ (decimal (refusal_entry r).number ++ (codes "\nplace=" ++ decimal (refusal_entry r).place))

@@ -6,7 +6,7 @@ use Rattle.std.specs.Prelude.{◌≡◌, ℕ, suc, ◌*◌, ◌^◌, ◌<◌, �
 use Rattle.adders.specs.declared.wiring.Operand.{Operand}
 use Rattle.adders.specs.declared.wiring.Adder.{Adder}
 use Rattle.adders.specs.declared.refusals.Refusal.{Refusal}
-use Rattle.adders.specs.declared.refusals.Refusal.TheVariants.{ShiftOutOfRange, SourceNotLower, ValueOutOfRange}
+use Rattle.adders.specs.declared.refusals.Refusal.TheVariants.{TooManyAdders, ShiftOutOfRange, SourceNotLower, ValueOutOfRange}
 use Rattle.adders.specs.Values.{Slots, operand_value, adder_value, slot_value, sample, value}
 
 pub record Rule : Type 0 where
@@ -24,6 +24,11 @@ first_broken (r ∷ rs) = cond r.holds (first_broken rs) (Some r.refusal)
 abbrev pub Tried : {A : Type 0} → List Rule → A → Result A Refusal → Type 0
 Tried rs v (Ok x) = (first_broken rs ≡ None) × (x ≡ v)
 Tried rs v (Err e) = first_broken rs ≡ Some e
+
+-- a chain has at most eight adders: they are answered as they are, more are turned down
+abbrev pub FewEnough : List Adder → Result (List Adder) Refusal → Type 0
+FewEnough xs (Ok ys) = (length xs ≤ 8) × (ys ≡ xs)
+FewEnough xs (Err e) = (8 < length xs) × (e ≡ TooManyAdders)
 
 -- every operand, adder and output value lies from 1 to 2,147,483,647
 abbrev pub in_range : ℕ → Bool

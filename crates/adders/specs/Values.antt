@@ -55,8 +55,12 @@ spare_operand = record { source = 0; shift = 0 }
 abbrev pub spare_adder : Adder
 spare_adder = record { left = spare_operand; sign = Plus; right = spare_operand }
 
+-- what an adder is by the shift-and-add rule, over the values of all sources
+abbrev pub by_rule : Slots → Adder → ℕ
+by_rule xs a = combined a.sign (value xs a.left.source * 2 ^ a.left.shift) (value xs a.right.source * 2 ^ a.right.shift)
+
 -- What the values above come to: the sample is 1, and adder j + 1, with sources below it, is what its sign makes of its two sources under their shifts.
 pub record ValuesFollow : Type 0 where
   pub sample_is : (xs : Slots) → value xs 0 ≡ 1
   pub adder_is : (xs : Slots) (j : ℕ) (a : Adder) → slice_index_or xs j None ≡ Some a → a.left.source ≤ j → a.right.source ≤ j
-      → value xs (suc j) ≡ combined a.sign (value xs a.left.source * 2 ^ a.left.shift) (value xs a.right.source * 2 ^ a.right.shift)
+      → value xs (suc j) ≡ by_rule xs a

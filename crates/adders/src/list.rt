@@ -1,7 +1,8 @@
 // A list of adders in place, with room for a fixed number of them.
 ghost use Rattle.std.specs.Prelude.{◌≡◌, ◌-◌, ◌<◌, ◌≤◌, [], ◌∷◌, ◌++◌, length, map, replicate, Some, None, Ok, Err, slice_get};
-ghost use Rattle.std.specs.Option.{SomeIff};
+ghost use Rattle.adders.specs.Rules.{FewEnough};
 
+use crate::refusals::Refusal;
 use crate::wiring::Adder;
 use std::marker::Model;
 
@@ -37,21 +38,6 @@ impl<const N: usize> AdderList<N> {
             slots: [Adder::SPARE; N],
             len: 0,
         }
-    }
-
-    // These adders, if there is room for them.
-    pub fn from_slice(adders: &[Adder]) -> Option<AdderList<N>>
-        ensures { SomeIff result (length adders.now ≤ N) adders.now }
-    {
-        if adders.len() > N {
-            return None;
-        }
-        let mut slots = [Adder::SPARE; N];
-        slots[..adders.len()].copy_from_slice(adders);
-        Some(AdderList {
-            slots,
-            len: adders.len(),
-        })
     }
 
     // One adder more at the end, or the adder back where there is no room.
@@ -93,5 +79,24 @@ impl<const N: usize> AdderList<N> {
                 ensures { result ≡ slice_get adders.entry.now i }
             { adders.get(i).copied() },
         )
+    }
+}
+
+// The adders of a chain, which has room for eight.
+impl TryFrom<&[Adder]> for AdderList<8> {
+    type Error = Refusal;
+
+    ghost try_from_gives = { λ adders. FewEnough adders.now };
+
+    fn try_from(adders: &[Adder]) -> Result<AdderList<8>, Refusal> {
+        if adders.len() > 8 {
+            return Err(Refusal::TooManyAdders);
+        }
+        let mut slots = [Adder::SPARE; 8];
+        slots[..adders.len()].copy_from_slice(adders);
+        Ok(AdderList {
+            slots,
+            len: adders.len(),
+        })
     }
 }

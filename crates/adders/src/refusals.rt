@@ -1,9 +1,11 @@
 // Why a call is turned down: one type for the whole generator. Each case has a number and a place.
-ghost use Rattle.std.specs.Prelude.{◌≡◌};
-ghost use Rattle.adders.specs.Refusals.{refusal_entry, fault_entry};
+ghost use Rattle.std.specs.Prelude.{◌≡◌, Some};
+ghost use Rattle.adders.specs.Refusals.{refusal_entry, fault_entry, refusal_text};
 ghost use Rattle.adders.specs.declared.refusals.Refusal.TheVariants.{BrokenForm};
 
 use forms::FormError;
+use std::error::Error;
+use std::fmt;
 
 // Which rule of the block a row of a wiring sheet breaks, with the adder's number, 0 for the output.
 #[derive(Clone, Copy, Debug, PartialEq, Eq)]
@@ -154,3 +156,14 @@ impl From<FormError> for Refusal {
         Refusal::BrokenForm(error.place)
     }
 }
+
+// Two lines, without a line feed at the end.
+impl fmt::Display for Refusal {
+    ghost output = { λ r. Some (refusal_text r) };
+
+    fn fmt<W: fmt::Write>(&self, f: &mut fmt::Formatter<W>) -> fmt::Result {
+        write!(f, "fault={}\nplace={}", self.number(), self.place())
+    }
+}
+
+impl Error for Refusal {}

@@ -3,7 +3,9 @@
 --   remainder n     of a number by n
 --   remainders n    sum and difference by remainder
 --   Modular         the moduli that residues can have
-use Rattle.std.specs.Prelude.{ℕ, ◌+◌, ◌-◌, ◌%◌, ◌<◌, ◌≤◌}
+--   reduced_by m z  the remainder of the integer z by m
+use Rattle.std.specs.Prelude.{ℕ, ◌+◌, ◌-◌, ◌%◌, ◌<◌, ◌≤◌, ℤ, pos, unsigned_abs}
+use Rattle.std.specs.Int.{int_rem_euclid}
 use Rattle.std.proofs.Common.{mod-lt, arith}
 use Rattle.arith.specs.Operations.{Operations}
 
@@ -34,3 +36,6 @@ residue {n} bounds = remainder n (modular_positive bounds)
 
 abbrev pub residues : {n : ℕ} → Modular n → Operations (Below n)
 residues {n} bounds = remainders n (modular_positive bounds)
+
+abbrev pub reduced_by : ℕ → ℤ → ℕ
+reduced_by m z = unsigned_abs (int_rem_euclid z (pos m))

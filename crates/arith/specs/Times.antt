@@ -1,6 +1,6 @@
 -- What the laws give of copies added up.
 use Rattle.std.specs.Prelude.{◌≡◌, ℕ, zero, suc, ◌+◌, ◌-◌, ◌*◌, ◌^◌, ◌≤◌, refl}
-use Rattle.std.proofs.Common.{sym, ap, ◌∙◌, add-zero, add-suc, mul-one, mul_assoc, sub-add_cancel, pow-suc, arith}
+use Rattle.std.proofs.Common.{sym, ap, ◌∙◌, add-zero, add-suc, mul-one, one-mul, mul_assoc, sub-add_cancel, pow-suc, arith}
 use Rattle.arith.specs.Operations.{Operations, Laws, times, doubled, paired}
 
 pub twice : (n s : ℕ) → n * 2 ^ suc s ≡ n * 2 ^ s + n * 2 ^ s
@@ -44,6 +44,9 @@ module _ {M : Type 0} (ops : Operations M) (laws : Laws ops) where
       ap (λ k. times ops k x) halves
       ∙ times_add (n * 2 ^ s) (n * 2 ^ s) x
       ∙ ap (λ y. ops.plus y y) (times_doubled s n x)
+
+  pub doubled_times : (s : ℕ) (x : M) → doubled ops s x ≡ times ops (2 ^ s) x
+  doubled_times s x = ap (doubled ops s) (sym (times_one x)) ∙ sym (times_doubled s 1 x) ∙ ap (λ n. times ops n x) (one-mul (2 ^ s))
 
 module _ {M N : Type 0} (l : Operations M) (r : Operations N) where
   -- each side of a pair is doubled and added up by itself

@@ -2,10 +2,10 @@
 --   InWord        an integer that a word holds; pos n is n, and negsuc n is -(n + 1)
 --   word_bits     the remainder of an integer by 2^64: the bits of a word, two's complement
 --   WordProduct   the product of n and x as a word: the integer that a word holds and that differs from n * x by a multiple of 2^64
-use Rattle.std.specs.Prelude.{◌≡◌, ℕ, ◌-◌, ◌%◌, ◌^◌, ◌<◌, ℤ, pos, negsuc, ◌+ℤ◌, ◌*ℤ◌, ◌≤ℤ◌}
+use Rattle.std.specs.Prelude.{◌≡◌, ℕ, ◌-◌, ◌^◌, ◌<◌, ℤ, pos, negsuc, ◌+ℤ◌, ◌*ℤ◌, ◌≤ℤ◌}
 use Rattle.std.proofs.Common.{mod-lt, arith, lit<}
 use Rattle.arith.specs.Operations.{Operations}
-use Rattle.arith.specs.Remainders.{Below, remainders}
+use Rattle.arith.specs.Remainders.{Below, remainders, reduced_by}
 
 pub record InWord (z : ℤ) : Type 0 where
   pub least : negsuc (2 ^ 63 - 1) ≤ℤ z
@@ -20,8 +20,7 @@ pub bits_positive : 0 < 2 ^ 64
 bits_positive = lit< tt
 
 abbrev pub word_bits : ℤ → ℕ
-word_bits (pos n) = n % 2 ^ 64
-word_bits (negsuc n) = 2 ^ 64 - 1 - n % 2 ^ 64
+word_bits = reduced_by (2 ^ 64)
 
 pub bits_below : (z : ℤ) → word_bits z < 2 ^ 64
 bits_below (pos n) = mod-lt n bits_positive

@@ -11,6 +11,7 @@ pub struct Frame<L, R> {
     pub right: R,
 }
 
+#[tactic(auto, using(crate::specs::Times::doubled_pair))]
 impl<L: Arithmetic, R: Arithmetic> Arithmetic for Frame<L, R> {
     ghost Meaning = { L.Arithmetic.Meaning × R.Arithmetic.Meaning };
 

@@ -1,5 +1,5 @@
 // Words of 64 bits, two's complement, whose sums and differences wrap.
-ghost use Rattle.std.specs.Prelude.{◌^◌};
+ghost use Rattle.std.specs.Prelude.{◌≡◌, ◌^◌};
 ghost use Rattle.arith.specs.Remainders.{Below};
 ghost use Rattle.arith.specs.Words.{InWord, WordProduct, word_meaning, words, bits_positive};
 ghost use Rattle.arith.specs.Moduli.{remainder_laws};
@@ -12,6 +12,15 @@ pub struct Word {
     pub value: i64,
 }
 
+impl From<i64> for Word {
+    ghost from_gives = { λ integer w. w.value ≡ integer };
+
+    fn from(value: i64) -> Word {
+        Word { value }
+    }
+}
+
+#[tactic(auto, using(crate::proofs::WordLemmas::words_compute))]
 impl Arithmetic for Word {
     ghost Meaning = { Below (2 ^ 64) };
 
@@ -45,9 +54,8 @@ impl Arithmetic for Word {
 
     // A shift of the bits, in place of so many sums.
     fn shifted(self, shift: u8) -> Word {
-        match self.value.checked_shl(u32::from(shift)) {
-            Some(value) => Word { value },
-            None => Self::neutral(),
+        Word {
+            value: self.value.checked_shl(u32::from(shift)).unwrap_or(0),
         }
     }
 }

@@ -1,14 +1,14 @@
 -- What reading or making a chain answers, and that it answers nothing else.
-use Rattle.std.proofs.Common.{◌≡◌, ℕ, ◌+◌, ◌-◌, ◌<◌, ◌≤◌, false, ◌&&◌, leb, List, ◌++◌, length, get_or, take, drop, replicate, is_some, is_ok, IfOk, Some, None, Ok, Err, Decides, Option, Result, sym, refl, ap, ◌∙◌, subst, subst₂, ⊎_elim, arith}
+use Rattle.std.proofs.Common.{◌≡◌, ℕ, ◌+◌, ◌<◌, ◌≤◌, ◌&&◌, leb, List, length, get_or, take, is_ok, IfOk, Some, None, Ok, Err, Decides, Option, Result, sym, refl, ap, ◌∙◌, subst, subst₂, ⊎_elim, arith}
 use denote.Struct.Record.{values_one}
 use Rattle.std.specs.Coded.{coded_list}
-use Rattle.std.proofs.lemmas.List.{get_or-take, length-map, length-take-le, length-append, length-replicate, take-append-drop, take_all, take_at, drop_at}
+use Rattle.std.proofs.lemmas.List.{get_or-take, length-map, length-take-le, take_all}
 use Rattle.std.proofs.lemmas.Bool.{cases_lt, cond-true, and_from, le-leb, false≢true}
 use Rattle.adders.specs.contracts.wiring.Adder as adder
 use Rattle.adders.specs.declared.wiring.Adder.{Adder}
 use Rattle.adders.specs.declared.refusals.Refusal.{Refusal}
 use Rattle.adders.specs.declared.refusals.Refusal.TheVariants.{BrokenForm}
-use Rattle.adders.specs.Values.{spare_adder, sample, value, values_from, wired}
+use Rattle.adders.specs.Values.{sample, value, values_from, wired}
 use Rattle.adders.specs.Rules.{first_broken}
 use Rattle.adders.proofs.Broken.{some_none, none_from}
 use Rattle.adders.proofs.Follow.{within, follow}
@@ -16,7 +16,9 @@ use Rattle.adders.proofs.Sounds as sounds
 use Rattle.std.specs.Prelude.{IsOk}
 use Rattle.lines.proofs.Texts.{says_one}
 use Rattle.lines.specs.Form.{line_text}
-use Rattle.lines.proofs.Readings.{line_written, breaks_once}
+use Rattle.forms.proofs.Breaks.{breaks_once}
+use Rattle.lines.specs.Form.{Form}
+use Rattle.lines.proofs.Readings.{line_written}
 use Rattle.chains.specs.contracts.model.Chain.{struct, the_propositions}
 use Rattle.chains.specs.declared.model.Chain.{Chain}
 use Rattle.chains.specs.Rules.{Valued, chain_rules, Keeps}
@@ -95,7 +97,7 @@ module _ {bs : List ℕ} where
   reading_one (long h) (misshapen k b) = absurd (omega arith)
   reading_one (long h) (judged k l j) = absurd (omega arith)
   reading_one (misshapen h b) (long k) = absurd (omega arith)
-  reading_one (misshapen {i = i} h b) (misshapen {i = n} k d) = ap (λ p. Err (BrokenForm p)) (breaks_once bs n i d b)
+  reading_one (misshapen {i = i} h b) (misshapen {i = n} k d) = ap (λ p. Err (BrokenForm p)) (breaks_once Form bs n i d b)
   reading_one (misshapen h b) (judged {xs = xs} {out = out} k l j) = absurd (b.broken (xs, out, l))
   reading_one (judged h l j) (long k) = absurd (omega arith)
   reading_one (judged {xs = xs} {out = out} h l j) (misshapen k b) = absurd (b.broken (xs, out, l))

@@ -1,11 +1,11 @@
 -- The steps of the loops that test the rules.
-use Rattle.std.proofs.Common.{◌≡◌, ℕ, zero, suc, ◌+◌, ◌-◌, ◌<◌, ◌≤◌, true, false, cond, ◌||◌, List, [], ◌∷◌, ◌++◌, map, length, get_or, take, drop, set, replicate, Some, None, Ok, Err, Option, Result, sym, refl, ap, ◌∙◌, subst, ⊎_elim, arith}
-use Rattle.std.proofs.lemmas.List.{at_drop_more, take_more_set, map_more, drop-set-lt, drop-drop, drop-replicate, get_or-take, take_all, take_at, take-append-drop, length-map, length-append, length-replicate}
+use Rattle.std.proofs.Common.{◌≡◌, ℕ, zero, suc, ◌+◌, ◌-◌, ◌<◌, ◌≤◌, true, false, cond, List, ◌++◌, length, get_or, take, drop, replicate, Some, None, Ok, Err, Option, Result, sym, refl, ap, ◌∙◌, subst, ⊎_elim, arith}
+use Rattle.std.proofs.lemmas.List.{get_or-take, take_at, length-map, length-append, length-replicate}
 use Rattle.std.proofs.lemmas.Bool.{cases_order, le-leb, lt-leb}
 use Rattle.adders.specs.declared.wiring.Adder.{Adder}
 use Rattle.adders.specs.declared.refusals.Refusal.{Refusal}
 use Rattle.adders.specs.declared.refusals.Refusal.TheVariants.{TooManyAdders, AdderUnread}
-use Rattle.adders.specs.Values.{Slots, sample, value, values_from, wired, reads}
+use Rattle.adders.specs.Values.{Slots, sample, value, values_from, wired}
 use Rattle.adders.specs.Rules.{Tried, first_broken, rules_from, output_rules}
 use Rattle.adders.proofs.Broken.{otherwise, broken_append}
 use Rattle.adders.proofs.Follow.{length_values}

@@ -2,13 +2,14 @@
 --   Judged xs out r   r is what making a chain of the adders xs and the output shift out answers
 --   Reading bs r      r is what reading the bytes bs answers
 --   Accepted bs       bs is a chain line that keeps every rule
-use Rattle.std.specs.Prelude.{◌≡◌, ℕ, suc, ◌*◌, ◌^◌, ◌<◌, ◌≤◌, cond, ◌&&◌, List, length, take, Some, None, Ok, Err, Option, Result, nat_le, slice_index_or}
+use Rattle.std.specs.Prelude.{◌≡◌, ℕ, suc, ◌<◌, ◌≤◌, cond, ◌&&◌, List, length, Some, None, Ok, Err, Option, Result, nat_le, slice_index_or}
 use Rattle.adders.specs.declared.wiring.Adder.{Adder}
 use Rattle.adders.specs.declared.refusals.Refusal.{Refusal}
 use Rattle.adders.specs.declared.refusals.Refusal.TheVariants.{LineTooLong, BrokenForm}
-use Rattle.adders.specs.Values.{combined, value, wired}
+use Rattle.adders.specs.Values.{value, wired, by_rule}
 use Rattle.adders.specs.Rules.{first_broken}
-use Rattle.lines.specs.Form.{Line, BrokenAt}
+use Rattle.forms.specs.Breaking.{BrokenAt}
+use Rattle.lines.specs.Form.{Line, Form}
 use Rattle.chains.specs.declared.model.Chain.{Chain}
 use Rattle.chains.specs.Rules.{constant, chain_rules, Keeps}
 
@@ -23,15 +24,9 @@ chain_constant c = constant (chain_adders c) c.shift
 abbrev pub adder_value_at : Chain → ℕ → Option ℕ
 adder_value_at c j = cond (nat_le 1 j && nat_le j (length c.adders)) (Some (value (wired (chain_adders c)) j)) None
 
--- what an adder is by the shift-and-add rule, over the chain's own values
-abbrev pub by_rule : Chain → Adder → ℕ
-by_rule c a =
-    let xs = wired (chain_adders c) in
-    combined a.sign (value xs a.left.source * 2 ^ a.left.shift) (value xs a.right.source * 2 ^ a.right.shift)
-
--- v is the value of adder j by that rule, if there is one
+-- v is the value of adder j by the shift-and-add rule over the chain's own values, if there is one
 abbrev pub ShiftAndAdd : Chain → ℕ → Option ℕ → Type 0
-ShiftAndAdd c j v = (k : ℕ) (a : Adder) → j ≡ suc k → slice_index_or (wired (chain_adders c)) k None ≡ Some a → v ≡ Some (by_rule c a)
+ShiftAndAdd c j v = (k : ℕ) (a : Adder) → j ≡ suc k → slice_index_or (wired (chain_adders c)) k None ≡ Some a → v ≡ Some (by_rule (wired (chain_adders c)) a)
 
 pub data Judged (xs : List Adder) (out : ℕ) : Result Chain Refusal → Type 0 where
   kept : {c : Chain} → first_broken (chain_rules xs out) ≡ None → chain_adders c ≡ xs → c.shift ≡ out → Judged xs out (Ok c)
@@ -40,7 +35,7 @@ pub data Judged (xs : List Adder) (out : ℕ) : Result Chain Refusal → Type 0 
 -- the length first, then the form, then the rules
 pub data Reading (bs : List ℕ) : Result Chain Refusal → Type 0 where
   long : 200 < length bs → Reading bs (Err LineTooLong)
-  misshapen : {i : ℕ} → length bs ≤ 200 → BrokenAt bs i → Reading bs (Err (BrokenForm i))
+  misshapen : {i : ℕ} → length bs ≤ 200 → BrokenAt Form bs i → Reading bs (Err (BrokenForm i))
   judged : {xs : List Adder} {out : ℕ} {r : Result Chain Refusal} → length bs ≤ 200 → Line xs out bs → Judged xs out r → Reading bs r
 
 pub record Accepted (bs : List ℕ) : Type 0 where

@@ -1,14 +1,10 @@
 -- What is printed for a chain line: its constant, or the number and the place of its refusal.
-use Rattle.std.specs.Prelude.{◌≡◌, ℕ, List, ◌++◌, Ok, Err, codes, decimal, Result}
+use Rattle.std.specs.Prelude.{ℕ, List, ◌++◌, Ok, Err, codes, decimal, Result}
 use Rattle.adders.specs.declared.refusals.Refusal.{Refusal}
-use Rattle.adders.specs.Refusals.{refusal_entry}
+use Rattle.adders.specs.Refusals.{refusal_text}
 use Rattle.chains.specs.declared.model.Chain.{Chain}
-use Rattle.chains.specs.Chains.{chain_constant, Reading}
+use Rattle.chains.specs.Chains.{chain_constant}
 
 abbrev pub report_text : Result Chain Refusal → List ℕ
 report_text (Ok c) = codes "constant=" ++ decimal (chain_constant c)
-report_text (Err r) = codes "fault=" ++ (decimal (refusal_entry r).number ++ (codes "\nplace=" ++ decimal (refusal_entry r).place))
-
--- the text is what is printed for a line of these bytes
-abbrev pub Reports : List ℕ → List ℕ → Type 0
-Reports bs text = (a : Result Chain Refusal) × Reading bs a × (text ≡ report_text a)
+report_text (Err r) = refusal_text r

@@ -1,15 +1,11 @@
 -- The multiples of a sample, and what is printed for it.
---   reduced_by m z   the remainder of the integer z by m
 --   MultiplesOf c x  c times x: as a word, by 255, and by 257
-use Rattle.std.specs.Prelude.{◌≡◌, ℕ, ◌*◌, ◌%◌, List, ◌++◌, ℤ, pos, codes, decimal, unsigned_abs}
-use Rattle.std.specs.Int.{int_rem_euclid}
+use Rattle.std.specs.Prelude.{◌≡◌, ℕ, ◌*◌, ◌%◌, List, ◌++◌, ℤ, codes, decimal}
 use Rattle.std.specs.Fmt.{signed_decimal}
 use Rattle.adders.specs.Refusals.{Entry}
+use Rattle.arith.specs.Remainders.{reduced_by}
 use Rattle.arith.specs.Words.{WordProduct}
 use Rattle.multiples.specs.declared.report.Multiples.{Multiples}
-
-abbrev pub reduced_by : ℕ → ℤ → ℕ
-reduced_by m z = unsigned_abs (int_rem_euclid z (pos m))
 
 abbrev pub residue_product : ℕ → ℕ → ℤ → ℕ
 residue_product m c x = (c * reduced_by m x) % m

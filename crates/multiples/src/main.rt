@@ -6,39 +6,33 @@ mod report;
 use adders::Refusal;
 use chains::Chain;
 use integers::read_integer;
-use report::{apart, fault_text, framed, sample_text};
+use report::{FaultReport, SampleReport};
 use rows::Row;
 use std::io;
 use std::io::{BufRead, BufReader};
 
 fn main(rt: HostRuntime) -> io::Result<()> {
     let heap = rt.alloc();
-    let mut row = None;
-    let mut number = 0usize;
-    for line in BufReader::new(heap, rt.stdin())?.split(heap, b'\n') {
-        let line = line?;
-        number = number.saturating_add(1);
-        match row {
-            None => match Chain::read(line.as_slice()) {
-                Ok(chain) => {
-                    let constant = chain.constant();
-                    println!(rt; "constant={constant}")?;
-                    row = Some(Row::from_chain(&chain));
-                }
-                Err(refusal) => return rt.println(fault_text(heap, refusal, number)?),
-            },
-            Some(row) => match read_integer(line.as_slice()) {
-                Ok(sample) => {
-                    let text = sample_text(heap, apart(&row, sample), framed(&row, sample))?;
-                    rt.println(text)?;
-                }
-                Err(place) => rt.println(fault_text(heap, Refusal::BrokenForm(place), number)?)?,
-            },
+    let mut lines = BufReader::new(heap, rt.stdin())?.split(heap, b'\n');
+    let chain = match lines.next() {
+        Some(line) => Chain::read(line?.as_slice()),
+        // the chain line is missing
+        None => Err(Refusal::BrokenForm(0)),
+    };
+    let chain = match chain {
+        Ok(chain) => chain,
+        Err(refusal) => return rt.println(FaultReport { refusal, line: 1 }),
+    };
+    println!(rt; "constant={}", chain.constant())?;
+    let row = Row::from(chain);
+    for (line, number) in lines.zip(2..) {
+        match read_integer(line?.as_slice()) {
+            Ok(sample) => rt.println(SampleReport::new(&row, sample))?,
+            Err(error) => rt.println(FaultReport {
+                refusal: Refusal::from(error),
+                line: number,
+            })?,
         }
     }
-    match row {
-        Some(_) => Ok(()),
-        // the chain line is missing
-        None => rt.println(fault_text(heap, Refusal::BrokenForm(0), 1)?),
-    }
+    Ok(())
 }

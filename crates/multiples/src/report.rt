@@ -1,14 +1,14 @@
 // The multiples of a sample, and what is printed for it.
-ghost use Rattle.std.specs.Prelude.{◌≡◌, IfOk, string_bytes};
+ghost use Rattle.std.specs.Prelude.{Some};
 ghost use Rattle.adders.specs.Refusals.{refusal_entry};
 ghost use Rattle.rows.specs.Rows.{constant_of};
-ghost use Rattle.multiples.specs.Reports.{MultiplesOf, multiples_bytes, fault_bytes, reduced_by};
+ghost use Rattle.multiples.specs.Reports.{MultiplesOf, multiples_bytes, fault_bytes};
 
 use adders::Refusal;
-use arith::{Frame, Mod255, Mod257, Modulus, Residue, Word};
+use arith::{Frame, Mod255, Mod257, Residue, Word};
 use rows::Row;
 use running::run;
-use std::alloc::{AllocError, Global};
+use std::fmt;
 
 // A row's multiple of a sample, as a word and by two moduli.
 #[derive(Clone, Copy)]
@@ -18,21 +18,14 @@ pub struct Multiples {
     pub mod257: u32,
 }
 
-// The residue of a whole number.
-fn residue_of<K: Modulus>(sample: i64) -> Residue<K>
-    ensures { result.number ≡ reduced_by K.modulus sample }
-{
-    Residue::new(sample.rem_euclid(i64::from(K::divisor())) as u32)
-}
-
 // The row's multiples of a sample, one arithmetic at a time.
 pub fn apart(row: &Row, sample: i64) -> Multiples
     ensures { MultiplesOf (constant_of row.now) sample result }
 {
     Multiples {
-        word: run(row, Word { value: sample }).value,
-        mod255: run(row, residue_of::<Mod255>(sample)).number,
-        mod257: run(row, residue_of::<Mod257>(sample)).number,
+        word: run(row, Word::from(sample)).value,
+        mod255: run(row, Residue::<Mod255>::from(sample)).number,
+        mod257: run(row, Residue::<Mod257>::from(sample)).number,
     }
 }
 
@@ -41,11 +34,11 @@ pub fn framed(row: &Row, sample: i64) -> Multiples
     ensures { MultiplesOf (constant_of row.now) sample result }
 {
     let residues = Frame {
-        left: residue_of::<Mod255>(sample),
-        right: residue_of::<Mod257>(sample),
+        left: Residue::<Mod255>::from(sample),
+        right: Residue::<Mod257>::from(sample),
     };
     let x = Frame {
-        left: Word { value: sample },
+        left: Word::from(sample),
         right: residues,
     };
     let frame = run(row, x);
@@ -57,25 +50,51 @@ pub fn framed(row: &Row, sample: i64) -> Multiples
 }
 
 // The lines for a sample.
-pub fn sample_text(heap: Global, apart: Multiples, framed: Multiples) -> Result<String, AllocError>
-    ensures { IfOk result (λ s. string_bytes s ≡ multiples_bytes apart framed) }
-{
-    let Multiples {
-        word,
-        mod255,
-        mod257,
-    } = apart;
-    let left = framed.word;
-    let middle = framed.mod255;
-    let right = framed.mod257;
-    format!(in heap; "word={word}\nmod255={mod255}\nmod257={mod257}\nframe={left} {middle} {right}")
+#[derive(Clone, Copy)]
+pub struct SampleReport {
+    pub apart: Multiples,
+    pub framed: Multiples,
+}
+
+impl SampleReport {
+    pub fn new(row: &Row, sample: i64) -> SampleReport
+        ensures apart { MultiplesOf (constant_of row.now) sample result.apart }
+        ensures framed { MultiplesOf (constant_of row.now) sample result.framed }
+    {
+        SampleReport {
+            apart: apart(row, sample),
+            framed: framed(row, sample),
+        }
+    }
+}
+
+impl fmt::Display for SampleReport {
+    ghost output = { λ r. Some (multiples_bytes r.apart r.framed) };
+
+    fn fmt<W: fmt::Write>(&self, f: &mut fmt::Formatter<W>) -> fmt::Result {
+        let SampleReport { apart, framed } = self;
+        write!(
+            f,
+            "word={}\nmod255={}\nmod257={}\nframe={} {} {}",
+            apart.word, apart.mod255, apart.mod257, framed.word, framed.mod255, framed.mod257,
+        )
+    }
 }
 
 // A refusal, with the line of the input where it was met.
-pub fn fault_text(heap: Global, refusal: Refusal, line: usize) -> Result<String, AllocError>
-    ensures { IfOk result (λ s. string_bytes s ≡ fault_bytes (refusal_entry refusal) line) }
-{
-    let fault = refusal.number();
-    let place = refusal.place();
-    format!(in heap; "fault={fault}\nline={line}\nplace={place}")
+#[derive(Clone, Copy)]
+pub struct FaultReport {
+    pub refusal: Refusal,
+    pub line: usize,
+}
+
+impl fmt::Display for FaultReport {
+    ghost output = { λ r. Some (fault_bytes (refusal_entry r.refusal) r.line) };
+
+    fn fmt<W: fmt::Write>(&self, f: &mut fmt::Formatter<W>) -> fmt::Result {
+        let fault = self.refusal.number();
+        let line = self.line;
+        let place = self.refusal.place();
+        write!(f, "fault={fault}\nline={line}\nplace={place}")
+    }
 }

@@ -31,19 +31,13 @@ fn main(rt: HostRuntime) -> io::Result<()> {
     let Ok(chain) = Chain::read(HARMONIC) else {
         return rt.println("no chain");
     };
-    let row = Row::from_chain(&chain);
+    let row = Row::from(chain);
     let mut harmonics = PHASES;
-    match run_all(&row, &PHASES, &mut harmonics) {
-        Ok(()) => {}
-        Err(refusal) => {
-            let number = refusal.number();
-            return println!(rt; "fault={number}");
-        }
+    if let Err(refusal) = run_all(&row, &PHASES, &mut harmonics) {
+        return println!(rt; "fault={}", refusal.number());
     }
-    for (phase, harmonic) in PHASES.iter().zip(harmonics.iter()) {
-        let from = phase.steps;
-        let to = harmonic.steps;
-        println!(rt; "{from} {to}")?;
+    for (phase, harmonic) in PHASES.iter().zip(&harmonics) {
+        println!(rt; "{} {}", phase.steps, harmonic.steps)?;
     }
     Ok(())
 }

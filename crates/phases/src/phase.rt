@@ -12,6 +12,7 @@ pub struct Phase {
 }
 
 // A phase means what is left of it after whole turns; its shift is left to the doublings of the trait.
+#[tactic(auto, using(arith::specs::Moduli::same_remainder))]
 impl Arithmetic for Phase {
     ghost Meaning = { Below (2 ^ 32) };
 

@@ -7,43 +7,30 @@ use rows::Row;
 use running::{run, run_all};
 
 // The smallest modulus.
-#[derive(Clone, Copy, Default)]
 pub struct Mod2;
 
 impl Modulus for Mod2 {
-    ghost modulus = { 2 };
-
-    ghost bounds = { record { least = lit≤ tt; most = lit≤ tt } };
-
     const MODULUS: u32 = 2;
 
-    fn divisor() -> u32 {
-        Self::MODULUS
-    }
+    ghost MODULUS = { 2 };
+
+    ghost bounds = { record { least = lit≤ tt; most = lit≤ tt } };
 }
 
 // The largest.
-#[derive(Clone, Copy, Default)]
 pub struct Mod65536;
 
 impl Modulus for Mod65536 {
-    ghost modulus = { 65536 };
-
-    ghost bounds = { record { least = lit≤ tt; most = lit≤ tt } };
-
     const MODULUS: u32 = 65536;
 
-    fn divisor() -> u32 {
-        Self::MODULUS
-    }
+    ghost MODULUS = { 65536 };
+
+    ghost bounds = { record { least = lit≤ tt; most = lit≤ tt } };
 }
 
 // The row of a chain line.
 fn row(line: &[u8]) -> Option<Row> {
-    match Chain::read(line) {
-        Ok(chain) => Some(Row::from_chain(&chain)),
-        Err(_) => None,
-    }
+    Chain::read(line).ok().map(Row::from)
 }
 
 // 10,021 times a residue, by a subtraction too.
@@ -68,7 +55,7 @@ pub fn unreduced_agree() -> bool {
 }
 
 pub fn shifts_agree() -> bool {
-    let word = Word { value: -3 };
+    let word = Word::from(-3);
     word.shifted(0).value == -3
         && word.shifted(30).value == -3_221_225_472
         && word.shifted(63).value == i64::MIN
@@ -80,12 +67,9 @@ pub fn buffers_agree() -> bool {
     let Some(row) = row(b"chain=0.0+0.1 1.0+0.4 0") else {
         return false;
     };
-    let input = [Word { value: -7 }, Word { value: 0 }, Word { value: 1 }];
-    let mut output = [Word { value: 5 }; 3];
-    match run_all(&row, &input, &mut output) {
-        Ok(()) => { output[0].value == -133 && output[1].value == 0 && output[2].value == 19 }
-        Err(_) => false,
-    }
+    let input = [-7, 0, 1].map(Word::from);
+    let mut output = [Word::from(5); 3];
+    run_all(&row, &input, &mut output).is_ok() && output == [-133, 0, 19].map(Word::from)
 }
 
 // The output stays as it was.
@@ -93,16 +77,10 @@ pub fn lengths_agree() -> bool {
     let Some(row) = row(b"chain=3") else {
         return false;
     };
-    let input = [Word { value: 1 }, Word { value: 2 }];
-    let mut output = [Word { value: 5 }; 3];
-    match run_all(&row, &input, &mut output) {
-        Ok(()) => false,
-        Err(refusal) => {
-            refusal.number() == 27
-                && refusal.place() == 0
-                && output[0].value == 5
-                && output[1].value == 5
-                && output[2].value == 5
-        }
-    }
+    let input = [1, 2].map(Word::from);
+    let mut output = [Word::from(5); 3];
+    let Err(refusal) = run_all(&row, &input, &mut output) else {
+        return false;
+    };
+    refusal.number() == 27 && refusal.place() == 0 && output == [Word::from(5); 3]
 }

@@ -2,12 +2,8 @@
 use adders::{Adder, Operand, Sign};
 use rows::Row;
 
-#[derive(Clone, Copy, PartialEq, Eq)]
-pub enum Answer {
-    Constant(u32),
-    // a number and a place
-    Fault(u8, usize),
-}
+// A constant, or the number and the place of a refusal.
+type Answer = Result<u32, (u8, usize)>;
 
 #[derive(Clone, Copy)]
 pub struct Case {
@@ -19,10 +15,9 @@ pub struct Case {
 
 impl Case {
     pub fn agrees(&self) -> bool {
-        let answer = match Row::new(self.slots, self.output) {
-            Ok(row) => Answer::Constant(row.constant()),
-            Err(refusal) => Answer::Fault(refusal.number(), refusal.place()),
-        };
+        let answer = Row::new(self.slots, self.output)
+            .map(|row| row.constant())
+            .map_err(|refusal| (refusal.number(), refusal.place()));
         answer == self.answer
     }
 }
@@ -31,34 +26,18 @@ fn operand(source: u8, shift: u8) -> Operand {
     Operand { source, shift }
 }
 
-fn plus(left: Operand, right: Operand) -> Option<Adder> {
-    Some(Adder {
-        left,
-        sign: Sign::Plus,
-        right,
-    })
-}
-
-fn minus(left: Operand, right: Operand) -> Option<Adder> {
-    Some(Adder {
-        left,
-        sign: Sign::Minus,
-        right,
-    })
+fn adder(left: Operand, sign: Sign, right: Operand) -> Option<Adder> {
+    Some(Adder { left, sign, right })
 }
 
 // Five times the sample.
 fn five() -> Option<Adder> {
-    plus(operand(0, 0), operand(0, 2))
+    adder(operand(0, 0), Sign::Plus, operand(0, 2))
 }
 
 // An adder in the slot of its number and nothing else.
 fn alone(number: usize, adder: Option<Adder>) -> [Option<Adder>; 8] {
-    let mut slots = [None; 8];
-    if 1 <= number && number <= 8 {
-        slots[number - 1] = adder;
-    }
-    slots
+    std::array::from_fn(|i| if i + 1 == number { adder } else { None })
 }
 
 // Sources and shifts.
@@ -66,46 +45,46 @@ pub fn wirings() -> [Case; 6] {
     [
         Case {
             name: "an adder that reads itself",
-            slots: alone(3, plus(operand(3, 0), operand(0, 0))),
+            slots: alone(3, adder(operand(3, 0), Sign::Plus, operand(0, 0))),
             output: operand(3, 0),
-            answer: Answer::Fault(14, 3),
+            answer: Err((14, 3)),
         },
         Case {
             name: "a right shift of 31 after a left source too high",
-            slots: alone(2, plus(operand(2, 0), operand(0, 31))),
+            slots: alone(2, adder(operand(2, 0), Sign::Plus, operand(0, 31))),
             output: operand(2, 0),
-            answer: Answer::Fault(14, 2),
+            answer: Err((14, 2)),
         },
         Case {
             name: "a right shift of 31",
-            slots: alone(2, plus(operand(0, 0), operand(0, 31))),
+            slots: alone(2, adder(operand(0, 0), Sign::Plus, operand(0, 31))),
             output: operand(2, 0),
-            answer: Answer::Fault(13, 2),
+            answer: Err((13, 2)),
         },
         Case {
             name: "an output that reads a ninth adder",
             slots: [None; 8],
             output: operand(9, 31),
-            answer: Answer::Fault(14, 0),
+            answer: Err((14, 0)),
         },
         Case {
             name: "an output shift of 31",
             slots: [None; 8],
             output: operand(0, 31),
-            answer: Answer::Fault(13, 0),
+            answer: Err((13, 0)),
         },
         Case {
             name: "the sample as it is",
             slots: [None; 8],
             output: operand(0, 0),
-            answer: Answer::Constant(1),
+            answer: Ok(1),
         },
     ]
 }
 
 // Which adders are used.
 pub fn uses() -> [Case; 6] {
-    let chained = plus(operand(2, 0), operand(2, 3));
+    let chained = adder(operand(2, 0), Sign::Plus, operand(2, 3));
     let mut through = alone(2, five());
     through[6] = chained;
     let mut beside = through;
@@ -117,81 +96,81 @@ pub fn uses() -> [Case; 6] {
             name: "an adder through another, both away from the front",
             slots: through,
             output: operand(7, 0),
-            answer: Answer::Constant(45),
+            answer: Ok(45),
         },
         Case {
             name: "an adder that nothing reads",
             slots: beside,
             output: operand(7, 0),
-            answer: Answer::Fault(16, 4),
+            answer: Err((16, 4)),
         },
         Case {
             name: "an empty adder that is read through another",
             slots: lost,
             output: operand(7, 0),
-            answer: Answer::Fault(16, 2),
+            answer: Err((16, 2)),
         },
         Case {
             name: "an adder that only an unread one reads",
             slots: through,
             output: operand(2, 0),
-            answer: Answer::Fault(16, 7),
+            answer: Err((16, 7)),
         },
         Case {
             name: "adders under an output that reads the sample",
             slots: through,
             output: operand(0, 0),
-            answer: Answer::Fault(16, 2),
+            answer: Err((16, 2)),
         },
         Case {
             name: "an output that reads an empty adder",
             slots: [None; 8],
             output: operand(8, 0),
-            answer: Answer::Fault(16, 8),
+            answer: Err((16, 8)),
         },
     ]
 }
 
 // Values.
 pub fn ranges() -> [Case; 6] {
-    let mut unused = alone(1, minus(operand(0, 0), operand(0, 0)));
+    let mut unused = alone(1, adder(operand(0, 0), Sign::Minus, operand(0, 0)));
     unused[1] = five();
     [
         Case {
             name: "a difference of 0",
-            slots: alone(4, minus(operand(0, 0), operand(0, 0))),
+            slots: alone(4, adder(operand(0, 0), Sign::Minus, operand(0, 0))),
             output: operand(4, 0),
-            answer: Answer::Fault(15, 4),
+            answer: Err((15, 4)),
         },
         Case {
             name: "a difference below 0",
-            slots: alone(4, minus(operand(0, 0), operand(0, 1))),
+            slots: alone(4, adder(operand(0, 0), Sign::Minus, operand(0, 1))),
             output: operand(4, 0),
-            answer: Answer::Fault(15, 4),
+            answer: Err((15, 4)),
         },
         Case {
             name: "the largest value",
-            slots: alone(1, plus(operand(0, 30), operand(0, 29))),
+            slots: alone(1, adder(operand(0, 30), Sign::Plus, operand(0, 29))),
             output: operand(1, 0),
-            answer: Answer::Constant(1_610_612_736),
+            answer: Ok(1_610_612_736),
         },
         Case {
             name: "a sum too large",
-            slots: alone(1, plus(operand(0, 30), operand(0, 30))),
+            slots: alone(1, adder(operand(0, 30), Sign::Plus, operand(0, 30))),
             output: operand(1, 0),
-            answer: Answer::Fault(15, 1),
+            answer: Err((15, 1)),
         },
         Case {
             name: "an output too large",
             slots: alone(1, five()),
             output: operand(1, 29),
-            answer: Answer::Fault(15, 0),
+            answer: Err((15, 0)),
         },
         Case {
             name: "an unread adder before a value out of range",
             slots: unused,
             output: operand(2, 0),
-            answer: Answer::Fault(16, 1),
+            answer: Err((16, 1)),
         },
     ]
 }
@@ -199,7 +178,7 @@ pub fn ranges() -> [Case; 6] {
 // What a row says of its adders, at the numbers of the first case above and around them.
 pub fn adders_agree() -> bool {
     let mut slots = alone(2, five());
-    slots[6] = plus(operand(2, 0), operand(2, 3));
+    slots[6] = adder(operand(2, 0), Sign::Plus, operand(2, 3));
     let Ok(row) = Row::new(slots, operand(7, 1)) else {
         return false;
     };

@@ -1,5 +1,5 @@
 -- What making a row answers, that it answers nothing else, and what the calls on a row tell.
-use Rattle.std.proofs.Common.{◌≡◌, ℕ, suc, ◌-◌, ◌<◌, ◌≤◌, cond, leb, List, get_or, is_some, is_ok, Some, None, Ok, Decides, Result, sym, refl, ap, ◌∙◌, subst, ⊎_elim, arith}
+use Rattle.std.proofs.Common.{◌≡◌, ℕ, suc, ◌-◌, ◌<◌, ◌≤◌, cond, leb, List, get_or, is_some, is_ok, Some, None, Ok, Err, Decides, Result, sym, refl, ap, ◌∙◌, subst, ⊎_elim, arith}
 use denote.Struct.Record.{values_one}
 use Rattle.std.proofs.lemmas.Bool.{cases_lt, cond-true, cond-false, le-leb, lt-leb, false≢true}
 use Rattle.std.specs.contracts.option.Option as option
@@ -9,9 +9,11 @@ use Rattle.adders.specs.declared.wiring.Adder.{Adder}
 use Rattle.adders.specs.declared.wiring.Operand.{Operand}
 use Rattle.adders.specs.declared.refusals.Refusal.{Refusal}
 use Rattle.adders.specs.Values.{Slots, sample, value, values_from}
-use Rattle.adders.specs.Rules.{first_broken, InRange}
+use Rattle.std.specs.Prelude.{IsOk}
+use Rattle.adders.specs.Rules.{first_broken, rules_from, Tried, InRange}
 use Rattle.adders.proofs.Broken.{some_none, none_from}
 use Rattle.adders.proofs.Follow.{within, follow}
+use Rattle.adders.proofs.Sounds as sounds
 use Rattle.rows.specs.contracts.model.Row.{struct, the_propositions}
 use Rattle.rows.specs.declared.model.Row.{Row}
 use Rattle.rows.specs.Rules.{row_rules, KeepsRow}
@@ -42,6 +44,11 @@ module _ {xs : Slots} {out : Operand} where
   -- the clauses of `Row::new`
   pub told_new : {r : Result Row Refusal} → RowJudged xs out r → record { answer : RowJudged xs out r; only : (s : Result Row Refusal) → RowJudged xs out s → s ≡ r; exactly : Decides (is_ok r) (KeepsRow xs out) }
   told_new j = record { answer = j; only = λ s. judged_one j; exactly = judged_exactly j }
+
+-- the values of a row are told
+pub valued_ok : (r : Row) (v : Result (List ℕ) Refusal) → Tried (rules_from sample r.slots) (values_from sample r.slots) v → IsOk v
+valued_ok r (Ok at) t = refl
+valued_ok r (Err e) t = absurd (some_none (sym t ∙ (sounds.say r.slots).1 (row_keeps r).adders))
 
 -- an adder that the row uses
 pub record There (r : Row) (j : ℕ) (a : Adder) : Type 0 where

@@ -1,5 +1,5 @@
 -- The rules of a row as they are met: in the sources and shifts of the adders and of the output, in the use of adders, in their ranges, in the output's.
-use Rattle.std.proofs.Common.{◌≡◌, ℕ, suc, ◌*◌, ◌^◌, List, ◌++◌, length, get_or, Some, None, Ok, Err, Option, Result, sym, ap, ◌∙◌}
+use Rattle.std.proofs.Common.{◌≡◌, ℕ, suc, ◌*◌, ◌^◌, List, ◌++◌, length, get_or, Some, None, Ok, Err, Option, Result, sym, refl, ap, ◌∙◌}
 use Rattle.adders.specs.declared.wiring.Operand.{Operand}
 use Rattle.adders.specs.declared.refusals.Refusal.{Refusal}
 use Rattle.adders.specs.Values.{Slots, sample, value, values_from}
@@ -12,6 +12,10 @@ stopped o p r e = ap (λ q. otherwise q p) e
 
 past : (o p : Option Refusal) → o ≡ None → otherwise o p ≡ p
 past o p e = ap (λ q. otherwise q p) e
+
+otherwise_assoc : (o p q : Option Refusal) → otherwise o (otherwise p q) ≡ otherwise (otherwise o p) q
+otherwise_assoc None p q = refl
+otherwise_assoc (Some r) p q = refl
 
 module _ (xs : Slots) (out : Operand) (eight : length xs ≡ 8) where
   uses : Option Refusal
@@ -37,16 +41,17 @@ module _ (xs : Slots) (out : Operand) (eight : length xs ≡ 8) where
       ∙ (λ i. otherwise (first_broken (reading_rules (suc (eight i)) 0 out)) (
       (broken_append held (rules_from sample xs ++ range) ∙ ap (otherwise (first_broken held)) (broken_append (rules_from sample xs) range)) i)))
 
-  pub in_wiring : (r : Refusal) → first_broken (wiring_from 1 xs) ≡ Some r → first_broken (row_rules xs out) ≡ Some r
-  in_wiring r e = split ∙ stopped (first_broken (wiring_from 1 xs)) _ r e
+  -- sources and shifts of adders and output together
+  pub in_wiring : (r : Refusal) → first_broken (wiring_from 1 xs ++ reading_rules 9 0 out) ≡ Some r → first_broken (row_rules xs out) ≡ Some r
+  unfolding wiring
+  in_wiring r e =
+      split
+      ∙ otherwise_assoc (first_broken (wiring_from 1 xs)) (first_broken (reading_rules 9 0 out)) _
+      ∙ stopped (otherwise (first_broken (wiring_from 1 xs)) (first_broken (reading_rules 9 0 out))) _ r (sym (broken_append (wiring_from 1 xs) (reading_rules 9 0 out)) ∙ e)
 
   module _ (wired : first_broken (wiring_from 1 xs) ≡ None) where
     past_wiring : first_broken (row_rules xs out) ≡ otherwise wiring (otherwise uses (otherwise adders output))
     past_wiring = split ∙ past (first_broken (wiring_from 1 xs)) _ wired
-
-    pub in_output : (r : Refusal) → first_broken (reading_rules 9 0 out) ≡ Some r → first_broken (row_rules xs out) ≡ Some r
-    unfolding wiring
-    in_output r e = past_wiring ∙ stopped (first_broken (reading_rules 9 0 out)) _ r e
 
     module _ (there : first_broken (reading_rules 9 0 out) ≡ None) where
       past_output : first_broken (row_rules xs out) ≡ otherwise uses (otherwise adders output)

@@ -3,11 +3,11 @@
 --   row_value_at         what a sample of 1 becomes at it
 --   RowJudged xs out r   r is what making a row of the slots xs and the output operand out answers
 --   RowOf                the row that a chain is
-use Rattle.std.specs.Prelude.{◌≡◌, ℕ, ◌-◌, ◌*◌, ◌^◌, cond, is_some, Some, None, Ok, Err, Option, Result, nat_le, slice_index_or}
+use Rattle.std.specs.Prelude.{◌≡◌, ℕ, ◌-◌, ◌*◌, ◌^◌, cond, length, is_some, Some, None, Ok, Err, Option, Result, nat_le, slice_index_or}
 use Rattle.adders.specs.declared.wiring.Adder.{Adder}
 use Rattle.adders.specs.declared.wiring.Operand.{Operand}
 use Rattle.adders.specs.declared.refusals.Refusal.{Refusal}
-use Rattle.adders.specs.Values.{Slots, combined, value}
+use Rattle.adders.specs.Values.{Slots, value, by_rule}
 use Rattle.adders.specs.Rules.{first_broken}
 use Rattle.chains.specs.declared.model.Chain.{Chain}
 use Rattle.chains.specs.Rules.{eight_slots}
@@ -25,15 +25,9 @@ constant_of r = row_constant r.slots r.output
 abbrev pub row_value_at : Row → ℕ → Option ℕ
 row_value_at r j = cond (is_some (adder_at r j)) (Some (value r.slots j)) None
 
--- what an adder is by the shift-and-add rule, over the row's own values
-abbrev pub by_rule : Row → Adder → ℕ
-by_rule r a =
-    let xs = r.slots in
-    combined a.sign (value xs a.left.source * 2 ^ a.left.shift) (value xs a.right.source * 2 ^ a.right.shift)
-
--- v is the value of adder j by that rule, if the row uses it
+-- v is the value of adder j by the shift-and-add rule over the row's own values, if the row uses it
 abbrev pub ShiftAndAdd : Row → ℕ → Option ℕ → Type 0
-ShiftAndAdd r j v = (a : Adder) → adder_at r j ≡ Some a → v ≡ Some (by_rule r a)
+ShiftAndAdd r j v = (a : Adder) → adder_at r j ≡ Some a → v ≡ Some (by_rule r.slots a)
 
 pub data RowJudged (xs : Slots) (out : Operand) : Result Row Refusal → Type 0 where
   kept : {r : Row} → first_broken (row_rules xs out) ≡ None → r.slots ≡ xs → r.output ≡ out → RowJudged xs out (Ok r)
@@ -42,5 +36,5 @@ pub data RowJudged (xs : Slots) (out : Operand) : Result Row Refusal → Type 0 
 -- each adder of the chain in its slot, and the output reads the last one, or the sample where there is none, under the chain's output shift
 pub record RowOf (c : Chain) (r : Row) : Type 0 where
   pub slots : r.slots ≡ eight_slots (chain_adders c)
-  pub source : r.output.source ≡ c.len
+  pub source : r.output.source ≡ length (chain_adders c)
   pub shift : r.output.shift ≡ c.shift

@@ -1,6 +1,6 @@
 // The rules of a row, tested in their order.
-ghost use Rattle.std.specs.Prelude.{◌≡◌, ℕ, ◌<◌, false, None, slice_index_or};
-ghost use Rattle.adders.specs.Rules.{first_broken, Tried};
+ghost use Rattle.std.specs.Prelude.{◌≡◌, ℕ, ◌<◌, ◌++◌, false, None, Some, length, is_some, slice_index_or, IfOk, IfErr};
+ghost use Rattle.adders.specs.Rules.{first_broken, reading_rules, Tried};
 ghost use Rattle.rows.specs.Reading.{is_read};
 ghost use Rattle.rows.specs.Rules.{row_constant, row_rules, use_rules, slot_wiring, wiring_from};
 
@@ -13,10 +13,7 @@ const SOURCES: usize = 9;
 fn slot_wired(slot: Option<Adder>, number: usize) -> Result<(), Refusal>
     ensures { Tried (slot_wiring number slot) tt result }
 {
-    match slot {
-        Some(adder) => adder.wired_at(number),
-        None => Ok(()),
-    }
+    slot.map_or(Ok(()), |adder| adder.wired_at(number))
 }
 
 // The first rule of sources and shifts that any adder breaks.
@@ -29,49 +26,64 @@ fn slots_wired(slots: [Option<Adder>; 8]) -> Result<(), Refusal>
     Ok(())
 }
 
-// Which sources the output reads, directly or through adders.
-fn sources_read(slots: [Option<Adder>; 8], source: u8) -> [bool; 9]
-    requires wired { first_broken (wiring_from 1 slots) ≡ None }
-    requires there { source < 9 }
-    ensures { (j : ℕ) → j < 9 → slice_index_or result j false ≡ is_read 1 slots source j }
-{
-    let mut read = [false; 9];
-    read[source as usize] = true;
-    for place in (0..8).rev() {
-        if read[place + 1] {
-            if let Some(adder) = slots[place] {
-                read[adder.left.source as usize] = true;
-                read[adder.right.source as usize] = true;
-            }
-        }
-    }
-    read
+// The slots of a row and its output, whose sources and shifts keep their rules.
+#[derive(Clone, Copy)]
+struct Wiring {
+    slots: [Option<Adder>; 8],
+    output: Operand,
+    ghost room: { length slots ≡ 8 },
+    ghost lower: { is_some (first_broken (wiring_from 1 slots)) ≡ false },
+    ghost there: { output.source < 9 },
 }
 
-// The lowest adder that is empty though the output reads it, or filled though it does not.
-fn first_misused(slots: [Option<Adder>; 8], source: u8) -> Option<Refusal>
-    requires wired { first_broken (wiring_from 1 slots) ≡ None }
-    requires there { source < 9 }
-    ensures { result ≡ first_broken (use_rules slots source 1 slots) }
-{
-    let read = sources_read(slots, source);
-    for (i, slot) in slots.iter().enumerate() {
-        if slot.is_some() != read[i + 1] {
-            return Some(Refusal::AdderUnread(i + 1));
-        }
+impl Wiring {
+    // The first rule of sources and shifts that an adder breaks, or the output.
+    fn new(slots: [Option<Adder>; 8], output: Operand) -> Result<Wiring, Refusal>
+        ensures kept { IfOk result (λ w. (w.slots ≡ slots) × (w.output ≡ output) × (first_broken (wiring_from 1 slots) ≡ None) × (first_broken (reading_rules 9 0 output) ≡ None)) }
+        ensures broken { IfErr result (λ e. first_broken (wiring_from 1 slots ++ reading_rules 9 0 output) ≡ Some e) }
+    {
+        slots_wired(slots)?;
+        output.wired_below(SOURCES, 0)?;
+        Ok(Wiring { slots, output })
     }
-    None
+
+    // Which sources the output reads, directly or through adders.
+    fn sources_read(&self) -> [bool; 9]
+        ensures { (j : ℕ) → j < 9 → slice_index_or result j false ≡ is_read 1 self.now.slots self.now.output.source j }
+    {
+        let mut read = [false; 9];
+        read[self.output.source as usize] = true;
+        for place in (0..8).rev() {
+            if read[place + 1] {
+                if let Some(adder) = self.slots[place] {
+                    read[adder.left.source as usize] = true;
+                    read[adder.right.source as usize] = true;
+                }
+            }
+        }
+        read
+    }
+
+    // Each adder is used exactly if the output reads it; the lowest that is not so is told.
+    fn used_as_read(&self) -> Result<(), Refusal>
+        ensures { Tried (use_rules self.now.slots self.now.output.source 1 self.now.slots) tt result }
+    {
+        let read = self.sources_read();
+        for (i, slot) in self.slots.iter().enumerate() {
+            if slot.is_some() != read[i + 1] {
+                return Err(Refusal::AdderUnread(i + 1));
+            }
+        }
+        Ok(())
+    }
 }
 
 // The constant of a row of these slots and this output, or the first rule that it breaks.
 pub(crate) fn constant_of(slots: [Option<Adder>; 8], output: Operand) -> Result<u32, Refusal>
     ensures { Tried (row_rules slots output) (row_constant slots output) result }
 {
-    slots_wired(slots)?;
-    output.wired_below(SOURCES, 0)?;
-    if let Some(refusal) = first_misused(slots, output.source) {
-        return Err(refusal);
-    }
+    let wiring = Wiring::new(slots, output)?;
+    wiring.used_as_read()?;
     let values = slot_values(slots)?;
     output_value(values[output.source as usize], output.shift)
 }

@@ -2,7 +2,7 @@
 ghost use Rattle.std.specs.Prelude.{◌≡◌, ◌<◌, slice_index_or, slice_set};
 ghost use Rattle.running.specs.Results.{alike, listed};
 
-// An array would ask that nine samples fit into memory, which nothing says of an arithmetic in general.
+// An array of a type parameter asks at each use that nine of it fit into the address space, which nothing says of an arithmetic.
 #[derive(Clone, Copy)]
 pub(crate) struct Results<X>(X, X, X, X, X, X, X, X, X);
 

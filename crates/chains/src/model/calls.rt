@@ -25,10 +25,8 @@ impl Chain {
         if line.len() > MOST_BYTES {
             return Err(Refusal::LineTooLong);
         }
-        match Draft::read(line) {
-            Ok(draft) => Chain::new(draft.adders(), draft.shift()),
-            Err(place) => Err(Refusal::BrokenForm(place)),
-        }
+        let draft = Draft::read(line)?;
+        Chain::new(draft.adders(), draft.shift())
     }
 
     // The chain of these adders and this output shift, or the first rule that they break.
@@ -37,7 +35,7 @@ impl Chain {
         ensures only { Only (Judged adders.now shift) result }
         ensures exactly { Decides (is_ok result) (Keeps adders.now shift) }
     {
-        let adders = AdderList::from_slice(adders).ok_or(Refusal::TooManyAdders)?;
+        let adders = AdderList::try_from(adders)?;
         constant_of(&adders, shift)?;
         Ok(Chain { adders, shift })
     }

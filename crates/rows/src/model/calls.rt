@@ -18,24 +18,8 @@ impl Row {
         ensures only { Only (RowJudged slots output) result }
         ensures exactly { Decides (is_ok result) (KeepsRow slots output) }
     {
-        match constant_of(slots, output) {
-            Ok(_) => Ok(Row { slots, output }),
-            Err(refusal) => Err(refusal),
-        }
-    }
-
-    // The row that a chain is.
-    pub fn from_chain(chain: &Chain) -> Row
-        ensures row { RowOf chain.now result }
-        ensures constant { constant_of result ≡ chain_constant chain.now }
-    {
-        Row {
-            slots: chain.slots(),
-            output: Operand {
-                source: chain.adders().len() as u8,
-                shift: chain.shift(),
-            },
-        }
+        constant_of(slots, output)?;
+        Ok(Row { slots, output })
     }
 
     // For each adder nothing or its operands and its sign, adder 1 first.
@@ -68,10 +52,7 @@ impl Row {
         ensures value { result ≡ constant_of self.now }
         ensures range { InRange result }
     {
-        match constant_of(self.slots, self.output) {
-            Ok(constant) => constant,
-            Err(_) => unreachable(),
-        }
+        constant_of(self.slots, self.output).unwrap()
     }
 
     // What a sample of 1 becomes at an adder, `None` where the row does not use an adder of this number.
@@ -80,11 +61,22 @@ impl Row {
         ensures rule { ShiftAndAdd self.now adder result }
         ensures range { IfSome result InRange }
     {
-        match self.adder(adder) {
-            None => None,
-            Some(_) => match slot_values(self.slots) {
-                Ok(values) => Some(values[adder]),
-                Err(_) => unreachable(),
+        let _used = self.adder(adder)?;
+        let values = slot_values(self.slots).unwrap();
+        Some(values[adder])
+    }
+}
+
+// The row that a chain is, whose constant is the chain's.
+impl From<Chain> for Row {
+    ghost from_gives = { λ c r. RowOf c r × (constant_of r ≡ chain_constant c) };
+
+    fn from(chain: Chain) -> Row {
+        Row {
+            slots: chain.slots(),
+            output: Operand {
+                source: chain.adders().len() as u8,
+                shift: chain.shift(),
             },
         }
     }

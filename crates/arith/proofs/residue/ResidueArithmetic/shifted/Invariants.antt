@@ -1,5 +1,5 @@
-use Rattle.std.proofs.Common.{◌≡◌, ◌-◌, ◌*◌, ◌%◌, ◌^◌}
+use Rattle.std.proofs.Common.{◌≡◌, ◌*◌, ◌%◌, ◌^◌}
 use Rattle.arith.proofs.residue.ResidueArithmetic.shifted.Given as goal
 
 abbrev pub invariant-loop-turn : goal.invariant-loop-turn
-invariant-loop-turn g l = l.number ≡ (l.initial.number * 2 ^ (l._turn - l.first)) % l.m
+invariant-loop-turn g l = l.number ≡ (l.fn.self.number * 2 ^ l._turn) % l.m

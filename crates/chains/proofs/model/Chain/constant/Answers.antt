@@ -1,4 +1,4 @@
-use Rattle.std.proofs.Common.{◌≡◌, Ok, sym, subst}
+use Rattle.std.proofs.Common.{sym, subst}
 use Rattle.adders.specs.Rules.{InRange, Tried}
 use Rattle.chains.specs.Rules.{constant, chain_rules}
 use Rattle.chains.proofs.Answering.{chain_keeps}

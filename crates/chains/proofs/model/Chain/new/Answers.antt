@@ -1,8 +1,5 @@
-use Rattle.std.proofs.Common.{◌≡◌, ℕ, ◌<◌, ◌≤◌, List, length, None, Some, Err, is_some, refl, ap, ◌∙◌, sym, subst, arith, rules}
+use Rattle.std.proofs.Common.{is_some, refl, ap, ◌∙◌, sym}
 use Rattle.std.proofs.lemmas.Result.{err_from_is_err_and}
-use Rattle.std.specs.Option.{SomeIff}
-use Rattle.adders.specs.declared.refusals.Refusal.{Refusal}
-use Rattle.adders.specs.declared.refusals.Refusal.TheVariants.{TooManyAdders}
 use Rattle.adders.specs.Rules.{first_broken}
 use Rattle.chains.specs.Rules.{chain_rules}
 use Rattle.chains.specs.Chains.{kept, broken}
@@ -13,19 +10,14 @@ use Rattle.chains.proofs.model.Chain.new.Goals as goal
 
 pub returns-in_err-adders : goal.returns-in_err-adders
 returns-in_err-adders c =
-    let xs = c.args.adders.now in
     let p = err_from_is_err_and c.from_residual.result c.from_residual.ensures.1 in
-    let e : c.from_slice.result ≡ None = search rules in
-    let no = subst (λ o. SomeIff o (length xs ≤ 8) xs) e c.from_slice.ensures in
-    let many : 8 < length xs = omega (arith, no) in
-    let what : c.in_err-adders.field-0.0 ≡ TooManyAdders = search rules in
-    rw (p.1, p.2, what) (told_new (broken (chain_crowded xs c.args.shift many)))
+    let told = c.in_err-adders.ensures in
+    rw (p.1, p.2, told.1) (told_new (broken (chain_crowded c.args.adders.now c.args.shift told.0)))
 
 pub returns-in_err-constant_of : goal.returns-in_err-constant_of
 returns-in_err-constant_of c =
     let p = err_from_is_err_and c.from_residual-in_err-constant_of.result c.from_residual-in_err-constant_of.ensures.1 in
-    let e : c.from_slice.result ≡ Some c.in_ok-adders.adders = search rules in
-    let same = (subst (λ o. SomeIff o (length c.args.adders.now ≤ 8) c.args.adders.now) e c.from_slice.ensures).1 in
+    let same = c.in_ok-adders.ensures.1 in
     rw (p.1, p.2) (told_new (broken (ap (λ xs. first_broken (chain_rules xs c.args.shift)) (sym same) ∙ c.in_err-constant_of.ensures)))
 
 pub invariant_of-result : goal.invariant_of-result
@@ -35,6 +27,5 @@ invariant_of-result c =
 
 pub returns : goal.returns
 returns c =
-    let e : c.from_slice.result ≡ Some c.in_ok-adders.adders = search rules in
-    let same = (subst (λ o. SomeIff o (length c.args.adders.now ≤ 8) c.args.adders.now) e c.from_slice.ensures).1 in
+    let same = c.in_ok-adders.ensures.1 in
     told_new (kept (ap (λ xs. first_broken (chain_rules xs c.args.shift)) (sym same) ∙ c.in_ok-constant_of.ensures.0) same refl)

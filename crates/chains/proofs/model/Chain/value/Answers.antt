@@ -1,4 +1,4 @@
-use Rattle.std.proofs.Common.{◌≡◌, None, sym, ◌∙◌, refl, subst, ap, arith, rules}
+use Rattle.std.proofs.Common.{◌≡◌, None, refl, subst, arith, rules}
 use Rattle.chains.specs.Rules.{Valued}
 use Rattle.chains.specs.Chains.{adder_value_at, chain_adders}
 use Rattle.chains.proofs.Answering.{value_listed, told_value, valued_ok}

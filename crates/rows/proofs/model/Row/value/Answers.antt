@@ -1,20 +1,23 @@
-use Rattle.std.proofs.Common.{sym, ◌∙◌, arith}
-use Rattle.adders.proofs.Broken.{some_none}
-use Rattle.adders.proofs.Sounds as sounds
-use Rattle.rows.proofs.Answering.{row_keeps, value_high, told_none, told_value}
+use Rattle.std.proofs.Common.{subst, arith}
+use Rattle.adders.specs.Values.{sample, values_from}
+use Rattle.adders.specs.Rules.{rules_from, Tried}
+use Rattle.rows.proofs.Answering.{value_high, told_none, told_value, valued_ok}
 use Rattle.rows.proofs.model.Row.value.Goals as goal
 
 pub offset_bounds-values-adder : goal.offset_bounds-values-adder
-offset_bounds-values-adder c = let h = value_high c.args.self.now c.args.adder c.in-Some.field-0 c.in-Some.ensures in omega arith
+offset_bounds-values-adder c = let h = value_high c.args.self.now c.args.adder c.in_ok-_used._used c.in_ok-_used.ensures in omega arith
 
 pub bounds-values-adder : goal.bounds-values-adder
-bounds-values-adder c = value_high c.args.self.now c.args.adder c.in-Some.field-0 c.in-Some.ensures
+bounds-values-adder c = value_high c.args.self.now c.args.adder c.in_ok-_used._used c.in_ok-_used.ensures
 
-pub unreachable-requires : goal.unreachable-requires
-unreachable-requires c = some_none (sym c.in-Err.ensures ∙ (sounds.say c.args.self.now.slots).1 (row_keeps c.args.self.now).adders)
+pub unwrap-values-requires : goal.unwrap-values-requires
+unwrap-values-requires c = valued_ok c.args.self.now _ c.slot_values.ensures
 
-pub returns-in-None : goal.returns-in-None
-returns-in-None c = told_none c.args.self.now c.args.adder c.in-None.ensures
+pub returns-in_err-_used : goal.returns-in_err-_used
+returns-in_err-_used c = rw c.from_residual.ensures (told_none c.args.self.now c.args.adder c.in_err-_used.ensures)
 
-pub returns-in-Ok : goal.returns-in-Ok
-returns-in-Ok c = told_value c.args.self.now c.args.adder c.in-Some.field-0 c.in-Ok.values c.in-Some.ensures c.in-Ok.ensures.1
+pub returns : goal.returns
+returns c =
+    let r = c.args.self.now in
+    let told = subst (Tried (rules_from sample r.slots) (values_from sample r.slots)) c.unwrap-values.ensures c.slot_values.ensures in
+    told_value r c.args.adder c.in_ok-_used._used c.unwrap-values.result c.in_ok-_used.ensures told.1

@@ -1,0 +1,2 @@
+pub mod ResidueLemmas
+pub mod WordLemmas
