@@ -123,6 +123,7 @@ pub fn slot_values(slots: [Option<Adder>; 8]) -> Result<[u32; 9], Refusal>
 }
 
 // The values are what the shift-and-add rule gives.
+#[tactic(auto, using(crate::proofs::Follow::follow))]
 pub fn values_follow_their_adders()
     ensures { ValuesFollow }
 {}

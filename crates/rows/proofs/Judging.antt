@@ -1,9 +1,9 @@
 -- The rules of a row as they are met: in the sources and shifts of the adders and of the output, in the use of adders, in their ranges, in the output's.
-use Rattle.std.proofs.Common.{◌≡◌, ℕ, suc, ◌*◌, ◌^◌, List, ◌++◌, length, get_or, Some, None, Ok, Err, Option, Result, sym, refl, ap, ◌∙◌}
+use Rattle.std.proofs.Common.{◌≡◌, ℕ, ◌*◌, ◌^◌, List, ◌++◌, get_or, Some, None, Ok, Err, Option, Result, sym, refl, ap, ◌∙◌}
 use Rattle.adders.specs.declared.wiring.Operand.{Operand}
 use Rattle.adders.specs.declared.refusals.Refusal.{Refusal}
 use Rattle.adders.specs.Values.{Slots, sample, value, values_from}
-use Rattle.adders.specs.Rules.{first_broken, Tried, reading_rules, rules_from, output_rules}
+use Rattle.adders.specs.Rules.{first_broken, Tried, rules_from, output_rules}
 use Rattle.adders.proofs.Broken.{otherwise, broken_append}
 use Rattle.rows.specs.Rules.{row_constant, wiring_from, output_wiring, use_rules, row_rules}
 
@@ -17,7 +17,7 @@ otherwise_assoc : (o p q : Option Refusal) → otherwise o (otherwise p q) ≡ o
 otherwise_assoc None p q = refl
 otherwise_assoc (Some r) p q = refl
 
-module _ (xs : Slots) (out : Operand) (eight : length xs ≡ 8) where
+module _ (xs : Slots) (out : Operand) where
   uses : Option Refusal
   uses = first_broken (use_rules xs out.source 1 xs)
 
@@ -28,7 +28,7 @@ module _ (xs : Slots) (out : Operand) (eight : length xs ≡ 8) where
   output = first_broken (output_rules (value xs out.source) out.shift)
 
   wiring : Option Refusal
-  wiring = first_broken (reading_rules 9 0 out)
+  wiring = first_broken (output_wiring xs out)
 
   split : first_broken (row_rules xs out) ≡ otherwise (first_broken (wiring_from 1 xs)) (otherwise wiring (otherwise uses (otherwise adders output)))
   unfolding uses adders output wiring
@@ -38,25 +38,24 @@ module _ (xs : Slots) (out : Operand) (eight : length xs ≡ 8) where
       broken_append (wiring_from 1 xs) (output_wiring xs out ++ (held ++ (rules_from sample xs ++ range)))
       ∙ ap (otherwise (first_broken (wiring_from 1 xs))) (
       broken_append (output_wiring xs out) (held ++ (rules_from sample xs ++ range))
-      ∙ (λ i. otherwise (first_broken (reading_rules (suc (eight i)) 0 out)) (
-      (broken_append held (rules_from sample xs ++ range) ∙ ap (otherwise (first_broken held)) (broken_append (rules_from sample xs) range)) i)))
+      ∙ ap (otherwise (first_broken (output_wiring xs out))) (broken_append held (rules_from sample xs ++ range) ∙ ap (otherwise (first_broken held)) (broken_append (rules_from sample xs) range)))
 
   -- sources and shifts of adders and output together
-  pub in_wiring : (r : Refusal) → first_broken (wiring_from 1 xs ++ reading_rules 9 0 out) ≡ Some r → first_broken (row_rules xs out) ≡ Some r
+  pub in_wiring : (r : Refusal) → first_broken (wiring_from 1 xs ++ output_wiring xs out) ≡ Some r → first_broken (row_rules xs out) ≡ Some r
   unfolding wiring
   in_wiring r e =
       split
-      ∙ otherwise_assoc (first_broken (wiring_from 1 xs)) (first_broken (reading_rules 9 0 out)) _
-      ∙ stopped (otherwise (first_broken (wiring_from 1 xs)) (first_broken (reading_rules 9 0 out))) _ r (sym (broken_append (wiring_from 1 xs) (reading_rules 9 0 out)) ∙ e)
+      ∙ otherwise_assoc (first_broken (wiring_from 1 xs)) (first_broken (output_wiring xs out)) _
+      ∙ stopped (otherwise (first_broken (wiring_from 1 xs)) (first_broken (output_wiring xs out))) _ r (sym (broken_append (wiring_from 1 xs) (output_wiring xs out)) ∙ e)
 
   module _ (wired : first_broken (wiring_from 1 xs) ≡ None) where
     past_wiring : first_broken (row_rules xs out) ≡ otherwise wiring (otherwise uses (otherwise adders output))
     past_wiring = split ∙ past (first_broken (wiring_from 1 xs)) _ wired
 
-    module _ (there : first_broken (reading_rules 9 0 out) ≡ None) where
+    module _ (there : first_broken (output_wiring xs out) ≡ None) where
       past_output : first_broken (row_rules xs out) ≡ otherwise uses (otherwise adders output)
       unfolding wiring
-      past_output = past_wiring ∙ past (first_broken (reading_rules 9 0 out)) _ there
+      past_output = past_wiring ∙ past (first_broken (output_wiring xs out)) _ there
 
       pub in_use : (r : Refusal) → first_broken (use_rules xs out.source 1 xs) ≡ Some r → first_broken (row_rules xs out) ≡ Some r
       unfolding uses

@@ -3,7 +3,7 @@
 --   row_value_at         what a sample of 1 becomes at it
 --   RowJudged xs out r   r is what making a row of the slots xs and the output operand out answers
 --   RowOf                the row that a chain is
-use Rattle.std.specs.Prelude.{◌≡◌, ℕ, ◌-◌, ◌*◌, ◌^◌, cond, length, is_some, Some, None, Ok, Err, Option, Result, nat_le, slice_index_or}
+use Rattle.std.specs.Prelude.{◌≡◌, ℕ, ◌-◌, cond, length, is_some, Some, None, Ok, Err, Option, Result, nat_le, slice_index_or}
 use Rattle.adders.specs.declared.wiring.Adder.{Adder}
 use Rattle.adders.specs.declared.wiring.Operand.{Operand}
 use Rattle.adders.specs.declared.refusals.Refusal.{Refusal}

@@ -1,8 +1,8 @@
 // The rules of a row, tested in their order.
 ghost use Rattle.std.specs.Prelude.{◌≡◌, ℕ, ◌<◌, ◌++◌, false, None, Some, length, is_some, slice_index_or, IfOk, IfErr};
-ghost use Rattle.adders.specs.Rules.{first_broken, reading_rules, Tried};
+ghost use Rattle.adders.specs.Rules.{first_broken, Tried};
 ghost use Rattle.rows.specs.Reading.{is_read};
-ghost use Rattle.rows.specs.Rules.{row_constant, row_rules, use_rules, slot_wiring, wiring_from};
+ghost use Rattle.rows.specs.Rules.{row_constant, row_rules, use_rules, slot_wiring, wiring_from, output_wiring};
 
 use adders::{Adder, Operand, Refusal, output_value, slot_values};
 
@@ -39,8 +39,8 @@ struct Wiring {
 impl Wiring {
     // The first rule of sources and shifts that an adder breaks, or the output.
     fn new(slots: [Option<Adder>; 8], output: Operand) -> Result<Wiring, Refusal>
-        ensures kept { IfOk result (λ w. (w.slots ≡ slots) × (w.output ≡ output) × (first_broken (wiring_from 1 slots) ≡ None) × (first_broken (reading_rules 9 0 output) ≡ None)) }
-        ensures broken { IfErr result (λ e. first_broken (wiring_from 1 slots ++ reading_rules 9 0 output) ≡ Some e) }
+        ensures kept { IfOk result (λ w. (w.slots ≡ slots) × (w.output ≡ output) × (first_broken (wiring_from 1 slots) ≡ None) × (first_broken (output_wiring slots output) ≡ None)) }
+        ensures broken { IfErr result (λ e. first_broken (wiring_from 1 slots ++ output_wiring slots output) ≡ Some e) }
     {
         slots_wired(slots)?;
         output.wired_below(SOURCES, 0)?;

@@ -1,4 +1,4 @@
-use Rattle.std.proofs.Common.{ap, ◌∙◌}
+use Rattle.std.proofs.Common.{◌≡◌, subst}
 use Rattle.arith.specs.Operations.{doubled}
 use Rattle.running.proofs.runner.operand.Goals as goal
 
@@ -6,6 +6,6 @@ pub returns : goal.returns
 returns g c =
     let m = g.X.Arithmetic in
     record {
-      meaning = λ d. c.shifted.ensures.meaning ∙ ap (λ x. doubled m.operations c.args.operand.shift (m.means x)) (c.at.ensures d);
+      meaning = λ d. subst (λ x. m.means c.shifted.result ≡ doubled m.operations c.args.operand.shift (m.means x)) (c.at.ensures d) c.shifted.ensures.meaning;
       settled = c.shifted.ensures.settled;
     }
