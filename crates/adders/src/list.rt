@@ -64,8 +64,7 @@ impl<const N: usize> AdderList<N> {
         ensures items { result.now ≡ self.now }
         ensures few { length self.now ≤ N }
     {
-        let slots = &self.slots[..];
-        &slots[..self.len]
+        &self.slots[..self.len]
     }
 
     // Each adder in its slot, the others empty.

@@ -1,7 +1,8 @@
 // The values of operands and adders for a sample of 1, with the rules that they keep.
 ghost use Rattle.std.specs.Prelude.{◌≡◌, ◌*◌, ◌^◌, ◌<◌, ◌≤◌, [], ◌∷◌, IfOk};
 ghost use Rattle.adders.specs.Values.{operand_value, adder_value, slot_value, values_from, sample, reads, ValuesFollow};
-ghost use Rattle.adders.specs.Rules.{Tried, in_range, shift_rule, operand_rules, reading_rules, wiring_rules, adder_rules, slot_rules, rules_from, output_rules, RulesSay};
+ghost use Rattle.adders.specs.declared.refusals.Refusal.TheVariants.{ValueOutOfRange};
+ghost use Rattle.adders.specs.Rules.{Tried, rule, in_range, shift_rule, operand_rules, reading_rules, wiring_rules, adder_rules, slot_rules, rules_from, output_rules, RulesSay};
 
 use crate::refusals::Refusal;
 use crate::wiring::{Adder, Operand, Sign};
@@ -15,6 +16,17 @@ fn in_range(value: u64) -> bool
     ensures { result ≡ in_range value }
 {
     (1..=MOST_VALUE).contains(&value)
+}
+
+// A value that is in range, or its refusal at `place`.
+fn ranged(value: u64, place: usize) -> Result<u32, Refusal>
+    ensures { Tried (rule (in_range value) (ValueOutOfRange place) ∷ []) value result }
+{
+    if in_range(value) {
+        Ok(value as u32)
+    } else {
+        Err(Refusal::ValueOutOfRange(place))
+    }
 }
 
 // The rule of a shift, whose breach is told at `place`.
@@ -42,11 +54,7 @@ pub fn output_value(value: u32, shift: u8) -> Result<u32, Refusal>
 {
     shift_within(shift, 0)?;
     let output = scaled(value, shift);
-    if in_range(output) {
-        Ok(output as u32)
-    } else {
-        Err(Refusal::ValueOutOfRange(0))
-    }
+    ranged(output, 0)
 }
 
 impl Operand {
@@ -89,11 +97,10 @@ impl Adder {
             Sign::Plus => left + right,
             Sign::Minus => left.saturating_sub(right),
         };
-        if in_range(left) && in_range(right) && in_range(value) {
-            Ok(value as u32)
-        } else {
-            Err(Refusal::ValueOutOfRange(values.len()))
+        if !(in_range(left) && in_range(right)) {
+            return Err(Refusal::ValueOutOfRange(values.len()));
         }
+        ranged(value, values.len())
     }
 
     // Whether one of its operands has this source.

@@ -11,7 +11,7 @@ use std::marker::PhantomData;
 const MOST_AT_ONCE: u8 = 32;
 
 // A kind of residue, which names its modulus, from 2 to 65,536.
-pub trait Modulus {
+pub trait Modulus: Copy + Default {
     const MODULUS: u32;
 
     ghost MODULUS: { ℕ };

@@ -29,6 +29,8 @@ pub trait Scanner: Copy {
         ensures { (bs : List ℕ) → Reached bs self → MatchOption result (¬ Form bs) (Says bs) };
 
     // What led here can go on to bytes of the form.
+    ghost said: { (bs : List ℕ) (said : Self.Said) → Says bs said → Form bs };
+
     ghost viable: { (bs : List ℕ) (scanner : Self) → Reached bs scanner → Viable Form bs };
 }
 

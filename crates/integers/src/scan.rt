@@ -72,5 +72,7 @@ impl Scanner for Part {
         }
     }
 
+    ghost said = { λ bs z says. (z, says) };
+
     ghost viable = { viable };
 }

@@ -10,6 +10,7 @@ use Rattle.lines.specs.declared.scan.Front.TheVariants.{Nothing}
 use Rattle.lines.specs.declared.scan.Number.TheVariants.{Empty}
 use Rattle.lines.specs.declared.scan.Move.{Move}
 use Rattle.lines.specs.declared.scan.Move.TheVariants.{On, Done}
+use Rattle.lines.specs.declared.draft.Draft.{Draft}
 use Rattle.lines.specs.declared.reader.Reader.{Reader}
 use Rattle.lines.specs.Form.{Form}
 use Rattle.lines.specs.Scan.{step, final, at, moved, next, run, start}
@@ -53,5 +54,5 @@ step_done bs b reader after a reached e room full =
     reached_at (bs ++ b ∷ []) _ (reached.all ++ a ∷ []) (run_more bs b reached.all reader.part reached.ran (Some (Done a)) e) (holds_more reader.adders after reached.all a reached.holds room full)
 
 -- where the line ends
-pub end_on : (bs : List ℕ) (reader : Reader) (shift : ℕ) → Reached bs reader → final reader.part ≡ Some shift → Says bs (record { adders = reader.adders; shift = shift })
-end_on bs reader shift reached e = record { all = reached.all; line = said bs reached.all reader.part shift reached.ran e; holds = reached.holds }
+pub end_on : (bs : List ℕ) (reader : Reader) (draft : Draft) → Reached bs reader → draft.adders ≡ reader.adders → final reader.part ≡ Some draft.shift → Says bs draft
+end_on bs reader draft reached same e = record { all = reached.all; line = said bs reached.all reader.part draft.shift reached.ran e; holds = same ∙ reached.holds }

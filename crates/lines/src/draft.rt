@@ -1,45 +1,14 @@
-// What a line of the form says, before its rules are tried.
-ghost use Rattle.std.specs.Prelude.{◌≡◌, MatchResult};
-ghost use Rattle.forms.specs.Breaking.{BrokenAt};
-ghost use Rattle.lines.specs.Form.{Form, OneReading};
-ghost use Rattle.lines.specs.Drafts.{Says};
+// What a line of the form says, before its rules are tried. Its calls stand in a module below, since they cite definitions that name it.
+ghost use Rattle.std.specs.Prelude.{◌≤◌, length};
 
-use crate::reader::Reader;
-use adders::{Adder, AdderList};
-use forms::FormError;
+use adders::AdderList;
+
+pub mod reading;
 
 // The first nine adders of a line, which tell a chain of at most eight from a longer one, and its output shift.
 #[derive(Clone, Copy)]
 pub struct Draft {
-    pub(crate) adders: AdderList<9>,
-    pub(crate) shift: u8,
+    adders: AdderList<9>,
+    shift: u8,
+    ghost few: { length adders ≤ 9 },
 }
-
-impl Draft {
-    // What the line says, or the first byte after which no line of the form can follow, the length where it stops short.
-    pub fn read(line: &[u8]) -> Result<Draft, FormError>
-        ensures { MatchResult result (λ d. Says line.now d) (λ e. BrokenAt Form line.now e.place) }
-    {
-        forms::read::<Reader>(line)
-    }
-
-    // The first nine adders of the line, in its order.
-    pub fn adders(&self) -> &[Adder]
-        ensures { result.now ≡ self.now.adders }
-    {
-        self.adders.as_slice()
-    }
-
-    // The output shift of the line.
-    pub fn shift(&self) -> u8
-        ensures { result ≡ self.now.shift }
-    {
-        self.shift
-    }
-}
-
-// A line of the form says one list of adders and one output shift, and writing these gives the line; a broken line has one place.
-#[tactic(auto, using(crate::proofs::Readings::one_reading))]
-pub fn lines_have_one_reading()
-    ensures { OneReading }
-{}

@@ -5,4 +5,5 @@ mod draft;
 mod reader;
 mod scan;
 
-pub use draft::{Draft, lines_have_one_reading};
+pub use draft::Draft;
+pub use draft::reading::lines_have_one_reading;

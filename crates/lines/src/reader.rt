@@ -48,13 +48,11 @@ impl Scanner for Reader {
         }
     }
 
-    #[tactic(auto, using(crate::proofs::Steps::end_on))]
     fn end(self) -> Option<Draft> {
-        Some(Draft {
-            adders: self.adders,
-            shift: self.part.end()?,
-        })
+        Some(Draft::new(self.adders, self.part.end()?))
     }
+
+    ghost said = { λ bs draft says. (says.all, draft.shift, says.line) };
 
     ghost viable = { λ bs reader reached. reached.viable };
 }

@@ -1,4 +1,4 @@
-// The reader of a line, one byte at a time.
+// The automaton that reads a line, one byte at a time: where it stands, and what a byte leads to.
 ghost use Rattle.std.specs.Prelude.{◌≡◌};
 ghost use Rattle.lines.specs.Scan.{symbol, push, value, closed, final, step, on_symbol, on_key};
 

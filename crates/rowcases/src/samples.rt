@@ -7,6 +7,7 @@ use rows::Row;
 use running::{run, run_all};
 
 // The smallest modulus.
+#[derive(Clone, Copy, Default)]
 pub struct Mod2;
 
 impl Modulus for Mod2 {
@@ -18,6 +19,7 @@ impl Modulus for Mod2 {
 }
 
 // The largest.
+#[derive(Clone, Copy, Default)]
 pub struct Mod65536;
 
 impl Modulus for Mod65536 {

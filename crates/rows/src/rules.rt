@@ -26,7 +26,7 @@ fn slots_wired(slots: [Option<Adder>; 8]) -> Result<(), Refusal>
     Ok(())
 }
 
-// The slots of a row and its output, whose sources and shifts keep their rules.
+// The slots of a row, where each adder reads lower sources and shifts by at most 30, and an output that reads one of the nine sources.
 #[derive(Clone, Copy)]
 struct Wiring {
     slots: [Option<Adder>; 8],

@@ -25,16 +25,14 @@ fn slot_result<X: Arithmetic>(results: &Results<X>, slot: Option<Adder>) -> X
     requires { Within slot }
     ensures { (d : X) → X.means result ≡ slot_meaning X.operations (λ k. X.means (slice_index_or (listed results.now) k d)) slot }
 {
-    match slot {
-        None => X::neutral(),
-        Some(adder) => {
-            let left = operand(results, adder.left);
-            let right = operand(results, adder.right);
-            match adder.sign {
-                Sign::Plus => left.sum(right),
-                Sign::Minus => left.difference(right),
-            }
-        }
+    let Some(adder) = slot else {
+        return X::neutral();
+    };
+    let left = operand(results, adder.left);
+    let right = operand(results, adder.right);
+    match adder.sign {
+        Sign::Plus => left.sum(right),
+        Sign::Minus => left.difference(right),
     }
 }
 

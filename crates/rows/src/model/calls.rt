@@ -41,10 +41,7 @@ impl Row {
     pub fn adder(&self, number: usize) -> Option<Adder>
         ensures { result ≡ adder_at self.now number }
     {
-        match number {
-            1..=8 => self.slots[number - 1],
-            _ => None,
-        }
+        *self.slots.get(number.checked_sub(1)?)?
     }
 
     // What a sample of 1 becomes at the output.

@@ -15,4 +15,4 @@ returns-in_err-draft c =
 pub returns : goal.returns
 returns c =
     let d = c.in_ok-draft.ensures in
-    told_read (judged (omega arith) d.line (from_nine d.all c.in_ok-draft.draft.shift (subst₂ (λ ys o. Judged ys o c.new.result) (c.adders.ensures ∙ d.holds) c.shift.ensures c.new.ensures.answer)))
+    told_read (judged (omega arith) d.line (from_nine d.all c.in_ok-draft.draft.shift (subst₂ (λ ys o. Judged ys o c.new.result) (c.adders.ensures.adders ∙ d.holds) c.shift.ensures c.new.ensures.answer)))
