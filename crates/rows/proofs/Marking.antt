@@ -1,15 +1,13 @@
 -- The marks of the sources that are read, from the last adder down, and the steps of the loops over the slots.
-use Rattle.std.proofs.Common.{◌≡◌, ℕ, ◌+◌, ◌<◌, ◌≤◌, Bool, true, false, cond, not, ◌&&◌, ◌||◌, eqb, ◌≢◌, List, length, get_or, drop, set, replicate, is_some, Some, None, Option, sym, refl, ap, ◌∙◌, ⊎_elim, arith}
-use mathlib.Core.Bool.{beq}
+use Rattle.std.proofs.Common.{◌≡◌, ℕ, ◌+◌, ◌<◌, ◌≤◌, Bool, true, false, ◌&&◌, ◌||◌, eqb, ◌≢◌, List, length, get_or, drop, set, replicate, Some, None, Option, sym, refl, ap, ◌∙◌, ⊎_elim, arith}
 use Rattle.std.proofs.lemmas.List.{at_drop_more, at_drop_all, length-set, get_or-set_same, get_or-set_other, get_or-replicate}
-use Rattle.std.proofs.lemmas.Bool.{cases_eq, eq-eqb, ne_eqb, or_right, cond-true, cond-false, not-true, not-false}
+use Rattle.std.proofs.lemmas.Bool.{cases_eq, eq-eqb, ne_eqb, or_right}
 use Rattle.adders.specs.declared.wiring.Adder.{Adder}
-use Rattle.adders.specs.declared.refusals.Refusal.TheVariants.{AdderUnread}
 use Rattle.adders.specs.Values.{Slots}
 use Rattle.adders.specs.Rules.{first_broken}
 use Rattle.adders.proofs.Broken.{otherwise, broken_append}
 use Rattle.rows.specs.Reading.{slot_reads, is_read}
-use Rattle.rows.specs.Rules.{slot_wiring, wiring_from, use_rules}
+use Rattle.rows.specs.Rules.{slot_wiring, wiring_from}
 
 -- the marks, where the slots from adder n + 1 on were passed
 abbrev pub Marked : Slots → ℕ → List Bool → ℕ → Type 0
@@ -71,19 +69,6 @@ module _ (xs : Slots) (source p q : ℕ) (up : p ≡ q + 1) (room : q < length x
             ∙ or_assoc (get_or read j false) (eqb l j) (eqb r j)
             ∙ sym (passed j h ∙ (λ i. get_or read j false || (t i && slot_reads j (e i)))),
       )
-
--- the rules of use from the slot at place i on, where b says whether it is filled and c whether it is read
-module _ (xs : Slots) (source i : ℕ) (h : i < length xs) (b c : Bool) (filled : b ≡ is_some (get_or xs i None)) (is : c ≡ is_read 1 xs source (i + 1)) where
-  use_split : first_broken (use_rules xs source (i + 1) (drop i xs)) ≡ cond (beq b c) (first_broken (use_rules xs source (i + 1 + 1) (drop (i + 1) xs))) (Some (AdderUnread (i + 1)))
-  use_split =
-      at_drop_more (λ ys. first_broken (use_rules xs source (i + 1) ys)) xs i None h
-      ∙ (λ k. cond (beq (sym filled k) (sym is k)) (first_broken (use_rules xs source (i + 1 + 1) (drop (i + 1) xs))) (Some (AdderUnread (i + 1))))
-
-  pub use_stop : not (beq b c) ≡ true → first_broken (use_rules xs source (i + 1) (drop i xs)) ≡ Some (AdderUnread (i + 1))
-  use_stop e = use_split ∙ cond-false (beq b c) _ _ (not-true (beq b c) e)
-
-  pub use_more : not (beq b c) ≡ false → first_broken (use_rules xs source (i + 1) (drop i xs)) ≡ first_broken (use_rules xs source (i + 1 + 1) (drop (i + 1) xs))
-  use_more e = use_split ∙ cond-true (beq b c) _ _ (not-false (beq b c) e)
 
 -- the rules of sources and shifts from the slot at place i on
 pub wiring_more : (xs : Slots) (i : ℕ) → i < length xs → first_broken (wiring_from (i + 1) (drop i xs)) ≡ otherwise (first_broken (slot_wiring (i + 1) (get_or xs i None))) (first_broken (wiring_from (i + 1 + 1) (drop (i + 1) xs)))
