@@ -1,8 +1,8 @@
 -- One turn of a loop that values the slots: the slot at place i, over the values at of the sources below it, of which the code takes the first n.
-use Rattle.std.proofs.Common.{◌≡◌, ℕ, ◌+◌, ◌<◌, List, [], ◌∷◌, ◌++◌, length, get_or, take, drop, set, Some, None, sym, ap, ◌∙◌}
-use Rattle.std.proofs.lemmas.List.{at_drop_more, take_more_set}
+use Rattle.std.proofs.Common.{◌≡◌, ℕ, ◌+◌, ◌<◌, List, [], ◌∷◌, ◌++◌, length, get_or, take, drop, Some, None, sym, ap, ◌∙◌}
+use Rattle.std.proofs.lemmas.List.{at_drop_more}
 use Rattle.adders.specs.declared.refusals.Refusal.{Refusal}
-use Rattle.adders.specs.Values.{Slots, slot_value, values_from}
+use Rattle.adders.specs.Values.{Slots, slot_value}
 use Rattle.adders.specs.Rules.{first_broken, slot_rules, rules_from}
 use Rattle.adders.proofs.Broken.{otherwise, broken_append}
 
@@ -20,20 +20,3 @@ module _ (xs : Slots) (i : ℕ) (at : List ℕ) (h : i < length xs) (room : i + 
 
   pub rules_stop : (r : Refusal) → first_broken (slot_rules (take n at) (get_or xs i None)) ≡ Some r → first_broken (rules_from (take (i + 1) at) (drop i xs)) ≡ Some r
   rules_stop r p = split ∙ ap (λ o. otherwise o (first_broken (rules_from (take n at ++ slot_value (take n at) (get_or xs i None) ∷ []) rest))) p
-
-  module _ (v : ℕ) (e : v ≡ slot_value (take n at) (get_or xs i None)) where
-    -- the values with the slot's own
-    grown : take n at ++ slot_value (take n at) (get_or xs i None) ∷ [] ≡ take (i + 1 + 1) (set at (i + 1) v)
-    grown = ap (λ w. take n at ++ w ∷ []) (sym e) ∙ ap (λ m. take m at ++ v ∷ []) up ∙ sym (take_more_set at (i + 1) v room)
-
-    pub values_more : values_from (take (i + 1) at) (drop i xs) ≡ values_from (take (i + 1 + 1) (set at (i + 1) v)) (drop (i + 1) xs)
-    values_more =
-        ap (λ m. values_from (take m at) (drop i xs)) (sym up)
-        ∙ at_drop_more (λ ys. values_from (take n at) ys) xs i None h
-        ∙ ap (λ vs. values_from vs (drop (i + 1) xs)) grown
-
-    pub rules_more : first_broken (slot_rules (take n at) (get_or xs i None)) ≡ None → first_broken (rules_from (take (i + 1) at) (drop i xs)) ≡ first_broken (rules_from (take (i + 1 + 1) (set at (i + 1) v)) (drop (i + 1) xs))
-    unfolding rest
-    rules_more p =
-        split ∙ ap (λ o. otherwise o (first_broken (rules_from (take n at ++ slot_value (take n at) (get_or xs i None) ∷ []) rest))) p
-        ∙ ap (λ vs. first_broken (rules_from vs rest)) grown

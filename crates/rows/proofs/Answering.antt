@@ -67,17 +67,7 @@ there r j a e =
     (λ none. absurd (some_none (sym e ∙ cond-false (leb 1 j) (get_or r.slots (j - 1) None) None (lt-leb 1 j (omega arith)))))
     (cases_lt 0 j)
 
-pub value_high : (r : Row) (j : ℕ) (a : Adder) → Some a ≡ adder_at r j → j < 9
-value_high r j a e = (there r j a (sym e)).high
-
 -- the clauses of `Row::value`
-pub told_none : (r : Row) (j : ℕ) → None ≡ adder_at r j → record { value : None ≡ row_value_at r j; rule : ShiftAndAdd r j None; range : Unit {0} }
-told_none r j e = record {
-  value = ap (λ o. cond (is_some o) (Some (value r.slots j)) None) e;
-  rule = λ a p. absurd (some_none (sym p ∙ sym e));
-  range = tt;
-}
-
 pub told_value : (r : Row) (j : ℕ) (a : Adder) (at : List ℕ) → Some a ≡ adder_at r j → at ≡ values_from sample r.slots → record { value : Some (get_or at j 0) ≡ row_value_at r j; rule : ShiftAndAdd r j (Some (get_or at j 0)); range : InRange (get_or at j 0) }
 told_value r j a at e all =
     let is : Some (get_or at j 0) ≡ Some (value r.slots j) = ap (λ vs. Some (get_or vs j 0)) all in

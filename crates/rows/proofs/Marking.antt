@@ -1,5 +1,5 @@
 -- The marks of the sources that are read, from the last adder down, and the steps of the loops over the slots.
-use Rattle.std.proofs.Common.{◌≡◌, ℕ, ◌+◌, ◌<◌, ◌≤◌, Bool, true, false, ◌&&◌, ◌||◌, eqb, ◌≢◌, List, length, get_or, drop, set, replicate, Some, None, Option, sym, refl, ap, ◌∙◌, ⊎_elim, arith}
+use Rattle.std.proofs.Common.{◌≡◌, ℕ, ◌+◌, ◌<◌, ◌≤◌, Bool, true, false, ◌&&◌, ◌||◌, eqb, ◌≢◌, List, length, get_or, drop, set, replicate, Some, None, sym, refl, ap, ◌∙◌, ⊎_elim, arith}
 use Rattle.std.proofs.lemmas.List.{at_drop_more, at_drop_all, length-set, get_or-set_same, get_or-set_other, get_or-replicate}
 use Rattle.std.proofs.lemmas.Bool.{cases_eq, eq-eqb, ne_eqb, or_right}
 use Rattle.adders.specs.declared.wiring.Adder.{Adder}
@@ -36,10 +36,6 @@ marked_first xs source eight h = (
   length-set (replicate 9 false) source true,
   λ j l. flagged (replicate 9 false) source j h ∙ ap (λ b. b || eqb source j) (get_or-replicate 9 j false false l) ∙ sym (at_drop_all (λ ys. is_read 9 ys source j) xs 8 (omega arith)),
 )
-
-pub none_left : {A : Type 0} (o : Option A) → ((a : A) → o ≡ Some a → ⊥) → o ≡ None
-none_left None f = refl
-none_left (Some a) f = absurd (f a refl)
 
 -- the slot at place q, below the slots that were passed
 module _ (xs : Slots) (source p q : ℕ) (up : p ≡ q + 1) (room : q < length xs) (few : p ≤ 8) (read : List Bool) (inv : Marked xs source read p) where

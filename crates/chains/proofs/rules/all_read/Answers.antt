@@ -1,4 +1,4 @@
-use Rattle.std.proofs.Common.{◌≡◌, ◌-◌, ◌≤◌, true, length, drop, refl, sym, ap, ◌∙◌, arith, below_more}
+use Rattle.std.proofs.Common.{◌-◌, length, refl, sym, ap, ◌∙◌, arith}
 use Rattle.std.proofs.lemmas.List.{take_rest}
 use Rattle.chains.specs.Rules.{some_reads}
 use Rattle.chains.proofs.Judging.{all_read, unread_first}
@@ -9,12 +9,6 @@ returns-then-not-some_reads c =
     let xs = c.args.adders.now in
     let j = c.loop-number.number in
     (unread_first xs 1 (length xs - 1) j c.loop-number.auto.number (omega (arith, c.loop-number.auto.number)) c.loop-number.invariant (ap (some_reads j) (sym (take_rest xs j)) ∙ sym c.if-not-some_reads.ensures))
-
-pub loop-number-preserved : goal.loop-number-preserved
-loop-number-preserved c =
-    let xs = c.args.adders.now in
-    let j = c.loop-number.number in
-    λ k low high. below_more (λ m. 1 ≤ m → some_reads m (drop m xs) ≡ true) j (λ m h l. c.loop-number.invariant m l h) (λ _. ap (some_reads j) (sym (take_rest xs j)) ∙ sym c.if-not-some_reads.ensures) k high low
 
 pub returns : goal.returns
 returns c =

@@ -1,5 +1,4 @@
-use Rattle.std.proofs.Common.{◌≡◌, ◌+◌, length, drop, refl, ap, ◌∙◌, arith, rules}
-use Rattle.std.proofs.lemmas.List.{at_drop_all}
+use Rattle.std.proofs.Common.{◌≡◌, ◌+◌, length, drop, ap, ◌∙◌, arith, rules}
 use Rattle.std.proofs.lemmas.Result.{err_from_is_err_and}
 use Rattle.adders.specs.Rules.{first_broken}
 use Rattle.adders.proofs.Broken.{otherwise}
@@ -14,17 +13,3 @@ returns-in_err-slot_wired c =
     let i = c.loop-i.i in
     let eight : length xs ≡ 8 = search rules in
     rw (p.1, p.2) (c.loop-i.invariant ∙ wiring_more xs i (omega arith) ∙ ap (λ o. otherwise o (first_broken (wiring_from (i + 1 + 1) (drop (i + 1) xs)))) c.in_err-slot_wired.ensures)
-
-pub loop-i-preserved : goal.loop-i-preserved
-loop-i-preserved c =
-    let xs = c.args.slots in
-    let i = c.loop-i.i in
-    let eight : length xs ≡ 8 = search rules in
-    c.loop-i.invariant ∙ wiring_more xs i (omega arith) ∙ ap (λ o. otherwise o (first_broken (wiring_from (i + 1 + 1) (drop (i + 1) xs)))) c.in_ok-slot_wired.ensures.0
-
-pub returns : goal.returns
-returns c =
-    let xs = c.args.slots in
-    let i = c.loop-i.i in
-    let eight : length xs ≡ 8 = search rules in
-    (c.loop-i.invariant ∙ at_drop_all (λ ys. first_broken (wiring_from (i + 1) ys)) xs i (omega arith), refl)

@@ -1,11 +1,10 @@
-use Rattle.std.proofs.Common.{is_some, refl, ap, ◌∙◌, sym}
+use Rattle.std.proofs.Common.{refl, ap, ◌∙◌, sym}
 use Rattle.std.proofs.lemmas.Result.{err_from_is_err_and}
 use Rattle.adders.specs.Rules.{first_broken}
 use Rattle.chains.specs.Rules.{chain_rules}
 use Rattle.chains.specs.Chains.{kept, broken}
 use Rattle.chains.proofs.Answering.{told_new}
 use Rattle.chains.proofs.Judging.{chain_crowded}
-use Rattle.chains.proofs.Keeping.{keeps_from}
 use Rattle.chains.proofs.model.Chain.new.Goals as goal
 
 pub returns-in_err-adders : goal.returns-in_err-adders
@@ -19,11 +18,6 @@ returns-in_err-constant_of c =
     let p = err_from_is_err_and c.from_residual-in_err-constant_of.result c.from_residual-in_err-constant_of.ensures.1 in
     let same = c.in_ok-adders.ensures.1 in
     rw (p.1, p.2) (told_new (broken (ap (λ xs. first_broken (chain_rules xs c.args.shift)) (sym same) ∙ c.in_err-constant_of.ensures)))
-
-pub invariant_of-result : goal.invariant_of-result
-invariant_of-result c =
-    let h = c.in_ok-constant_of.ensures.0 in
-    record { few = (keeps_from c.in_ok-adders.adders c.args.shift h).few; lawful = ap is_some h }
 
 pub returns : goal.returns
 returns c =

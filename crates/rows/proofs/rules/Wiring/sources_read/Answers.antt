@@ -1,7 +1,6 @@
-use Rattle.std.proofs.Common.{◌≡◌, ◌+◌, ◌-◌, drop, ap, ◌∙◌, arith}
+use Rattle.std.proofs.Common.{◌-◌, arith}
 use Rattle.adders.proofs.Broken.{none_from}
-use Rattle.rows.specs.Reading.{is_read}
-use Rattle.rows.proofs.Marking.{marked_first, unread, empty, filled, none_left}
+use Rattle.rows.proofs.Marking.{marked_first, unread, filled}
 use Rattle.rows.proofs.Keeping.{lower}
 use Rattle.rows.proofs.rules.Wiring.sources_read.Goals as goal
 
@@ -21,19 +20,8 @@ loop-place-preserved-in-Some c =
     let l = lower c.args.self.now.slots (none_from _ c.args.self.now.lower) (p - 1) c.in-Some.adder c.in-Some.is in
     filled c.args.self.now.slots c.args.self.now.output.source p (p - 1) (omega arith) (omega arith) c.loop-place.auto.place c.loop-place.read c.loop-place.invariant c.in-Some.adder c.if-read-place.true c.in-Some.is (omega (arith, l.0)) (omega (arith, l.1))
 
-pub loop-place-preserved-in_default : goal.loop-place-preserved-in_default
-loop-place-preserved-in_default c =
-    let eight = c.args.self.now.room in
-    let p = c.loop-place.place in
-    empty c.args.self.now.slots c.args.self.now.output.source p (p - 1) (omega arith) (omega arith) c.loop-place.auto.place c.loop-place.read c.loop-place.invariant c.if-read-place.true (none_left _ c.in_default.not-Some)
-
 pub loop-place-preserved : goal.loop-place-preserved
 loop-place-preserved c =
     let eight = c.args.self.now.room in
     let p = c.loop-place.place in
     unread c.args.self.now.slots c.args.self.now.output.source p (p - 1) (omega arith) (omega arith) c.loop-place.auto.place c.loop-place.read c.loop-place.invariant c.if-read-place.false
-
-pub returns : goal.returns
-returns c j h =
-    let none : c.loop-place.place ≡ 0 = omega arith in
-    c.loop-place.invariant.1 j h ∙ ap (λ n. is_read (n + 1) (drop n c.args.self.now.slots) c.args.self.now.output.source j) none
