@@ -8,7 +8,7 @@ use crate::error::FormError;
 pub trait Scanner: Copy {
     type Said;
 
-    // The bytes have the form, and say this.
+    // The bytes say this.
     ghost Says: { List ℕ → Self.Said → Type 0 };
 
     // The bytes have the form.
@@ -28,9 +28,10 @@ pub trait Scanner: Copy {
     fn end(self) -> Option<Self::Said>
         ensures { (bs : List ℕ) → Reached bs self → MatchOption result (¬ Form bs) (Says bs) };
 
-    // What led here can go on to bytes of the form.
+    // Bytes that say something have the form.
     ghost said: { (bs : List ℕ) (said : Self.Said) → Says bs said → Form bs };
 
+    // Bytes that lead somewhere go on to bytes of the form.
     ghost viable: { (bs : List ℕ) (scanner : Self) → Reached bs scanner → Viable Form bs };
 }
 
