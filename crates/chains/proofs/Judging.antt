@@ -10,6 +10,8 @@ use Rattle.adders.specs.Rules.{Tried, first_broken, rules_from, output_rules}
 use Rattle.adders.proofs.Broken.{otherwise, broken_append}
 use Rattle.adders.proofs.Follow.{length_values}
 use Rattle.adders.proofs.Padded.{rules_padded, values_padded}
+use Rattle.std.specs.Prelude.{MatchOption}
+use Rattle.std.specs.Option.{option_map_or}
 use Rattle.chains.specs.Rules.{Valued, eight_slots, some_reads, read_rules_from, read_rules, chain_rules}
 
 pub eight : (xs : List Adder) → length xs ≤ 8 → length (eight_slots xs) ≡ 8
@@ -77,3 +79,10 @@ module _ (xs : List Adder) (out : ℕ) (few : length xs ≤ 8) where
 
     pub past_output : first_broken (output_rules (get_or at n 0) out) ≡ None → first_broken (chain_rules xs out) ≡ first_broken (read_rules xs)
     past_output e = past_adders ∙ ap (λ o. otherwise o (first_broken (read_rules xs))) e
+
+-- the lowest adder that no later one reads, if there is one
+pub unread_told : (xs : List Adder) (o : Option ℕ)
+    → MatchOption o ((k : ℕ) → 1 ≤ k → k < length xs → some_reads k (drop k xs) ≡ true) (λ j. (1 ≤ j) × (j < length xs) × (some_reads j (drop j xs) ≡ false) × ((k : ℕ) → 1 ≤ k → k < j → some_reads k (drop k xs) ≡ true))
+    → Tried {A = Unit {0}} (read_rules xs) tt (option_map_or {U = Result (Unit {0}) Refusal} (λ j. Err (AdderUnread j)) o (Ok tt))
+unread_told xs None all = (all_read xs 1 (length xs - 1) (λ k a b. all k a (omega arith)), refl)
+unread_told xs (Some j) found = unread_first xs 1 (length xs - 1) j found.0 (omega (arith, found.0, found.1)) found.3 found.2

@@ -23,12 +23,8 @@ fn some_reads(adders: &[Adder], source: usize) -> bool
 fn all_read(adders: &[Adder]) -> Result<(), Refusal>
     ensures { Tried (read_rules adders.now) tt result }
 {
-    for number in 1..adders.len() {
-        if !some_reads(&adders[number..], number) {
-            return Err(Refusal::AdderUnread(number));
-        }
-    }
-    Ok(())
+    let unread = (1..adders.len()).find(|number| !some_reads(&adders[*number..], *number));
+    unread.map_or(Ok(()), |number| Err(Refusal::AdderUnread(number)))
 }
 
 // The constant of a chain of these adders, or the first rule that it breaks.
