@@ -251,7 +251,7 @@ const CASES: [Case; 53] = [
         answer: Err((15, 0)),
     },
     Case {
-        name: "the largest output",
+        name: "a first adder one past the largest value",
         line: b"chain=0.30+0.30 0",
         answer: Err((15, 1)),
     },

@@ -35,7 +35,7 @@ impl fmt::Display for Report {
     }
 }
 
-// Prints the report on a line.
+// Prints the report on a line. It stands here since the kit cannot prove a `main` that holds a report, whose fields' types it does not name.
 pub fn print_report(rt: &impl Print, line: &[u8]) -> io::Result<()> {
     rt.println(Report::on(line))
 }

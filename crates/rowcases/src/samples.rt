@@ -8,7 +8,7 @@ use running::{run, run_all};
 
 // The smallest modulus.
 #[derive(Clone, Copy, Default)]
-pub struct Mod2;
+pub(crate) struct Mod2;
 
 impl Modulus for Mod2 {
     const MODULUS: u32 = 2;
@@ -20,7 +20,7 @@ impl Modulus for Mod2 {
 
 // The largest.
 #[derive(Clone, Copy, Default)]
-pub struct Mod65536;
+pub(crate) struct Mod65536;
 
 impl Modulus for Mod65536 {
     const MODULUS: u32 = 65536;
@@ -36,7 +36,7 @@ fn row(line: &[u8]) -> Option<Row> {
 }
 
 // 10,021 times a residue, by a subtraction too.
-pub fn moduli_agree() -> bool {
+pub(crate) fn moduli_agree() -> bool {
     let Some(row) = row(b"chain=0.0+0.2 1.0+1.11 2.0+0.5 3.0-0.8 0") else {
         return false;
     };
@@ -47,7 +47,7 @@ pub fn moduli_agree() -> bool {
 }
 
 // A row without adders answers the remainder too.
-pub fn unreduced_agree() -> bool {
+pub(crate) fn unreduced_agree() -> bool {
     let Some(row) = row(b"chain=0") else {
         return false;
     };
@@ -56,7 +56,7 @@ pub fn unreduced_agree() -> bool {
         && Residue::<Mod255>::new(300).shifted(200).number == 45
 }
 
-pub fn shifts_agree() -> bool {
+pub(crate) fn shifts_agree() -> bool {
     let word = Word::from(-3);
     word.shifted(0).value == -3
         && word.shifted(30).value == -3_221_225_472
@@ -65,7 +65,7 @@ pub fn shifts_agree() -> bool {
         && word.shifted(255).value == 0
 }
 
-pub fn buffers_agree() -> bool {
+pub(crate) fn buffers_agree() -> bool {
     let Some(row) = row(b"chain=0.0+0.1 1.0+0.4 0") else {
         return false;
     };
@@ -75,7 +75,7 @@ pub fn buffers_agree() -> bool {
 }
 
 // The output stays as it was.
-pub fn lengths_agree() -> bool {
+pub(crate) fn lengths_agree() -> bool {
     let Some(row) = row(b"chain=3") else {
         return false;
     };

@@ -6,15 +6,15 @@ use rows::Row;
 type Answer = Result<u32, (u8, usize)>;
 
 #[derive(Clone, Copy)]
-pub struct Case {
-    pub name: &'static str,
+pub(crate) struct Case {
+    pub(crate) name: &'static str,
     slots: [Option<Adder>; 8],
     output: Operand,
     answer: Answer,
 }
 
 impl Case {
-    pub fn agrees(&self) -> bool {
+    pub(crate) fn agrees(&self) -> bool {
         let answer = Row::new(self.slots, self.output)
             .map(|row| row.constant())
             .map_err(|refusal| (refusal.number(), refusal.place()));
@@ -41,7 +41,7 @@ fn alone(number: usize, adder: Option<Adder>) -> [Option<Adder>; 8] {
 }
 
 // Sources and shifts.
-pub fn wirings() -> [Case; 6] {
+pub(crate) fn wirings() -> [Case; 6] {
     [
         Case {
             name: "an adder that reads itself",
@@ -83,7 +83,7 @@ pub fn wirings() -> [Case; 6] {
 }
 
 // Which adders are used.
-pub fn uses() -> [Case; 6] {
+pub(crate) fn uses() -> [Case; 6] {
     let chained = adder(operand(2, 0), Sign::Plus, operand(2, 3));
     let mut through = alone(2, five());
     through[6] = chained;
@@ -132,7 +132,7 @@ pub fn uses() -> [Case; 6] {
 }
 
 // Values.
-pub fn ranges() -> [Case; 6] {
+pub(crate) fn ranges() -> [Case; 6] {
     let mut unused = alone(1, adder(operand(0, 0), Sign::Minus, operand(0, 0)));
     unused[1] = five();
     [
@@ -149,7 +149,7 @@ pub fn ranges() -> [Case; 6] {
             answer: Err((15, 4)),
         },
         Case {
-            name: "the largest value",
+            name: "a sum of 2^30 and 2^29",
             slots: alone(1, adder(operand(0, 30), Sign::Plus, operand(0, 29))),
             output: operand(1, 0),
             answer: Ok(1_610_612_736),
@@ -176,7 +176,7 @@ pub fn ranges() -> [Case; 6] {
 }
 
 // What a row says of its adders, at the numbers of the first case above and around them.
-pub fn adders_agree() -> bool {
+pub(crate) fn adders_agree() -> bool {
     let mut slots = alone(2, five());
     slots[6] = adder(operand(2, 0), Sign::Plus, operand(2, 3));
     let Ok(row) = Row::new(slots, operand(7, 1)) else {
@@ -186,9 +186,9 @@ pub fn adders_agree() -> bool {
         && row.output() == operand(7, 1)
         && row.value(2) == Some(5)
         && row.value(7) == Some(45)
-        && row.value(0) == None
-        && row.value(1) == None
-        && row.value(9) == None
+        && row.value(0).is_none()
+        && row.value(1).is_none()
+        && row.value(9).is_none()
         && row.adder(2) == five()
-        && row.adder(3) == None
+        && row.adder(3).is_none()
 }
