@@ -27,6 +27,7 @@ refusal_entry (R.ShiftOutOfRange adder) = entry 13 adder
 refusal_entry (R.SourceNotLower adder) = entry 14 adder
 refusal_entry (R.ValueOutOfRange adder) = entry 15 adder
 refusal_entry (R.AdderUnread adder) = entry 16 adder
+refusal_entry (R.AdderNotAsRead adder) = entry 16 adder
 refusal_entry R.CodeAboveFifteen = entry 20 0
 refusal_entry R.CodeLive = entry 21 0
 refusal_entry R.BlockTooSmall = entry 22 0

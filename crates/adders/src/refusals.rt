@@ -31,8 +31,10 @@ pub enum Refusal {
     SourceNotLower(usize),
     // an operand or the value of this adder, or of the output for 0, leaves 1 to 2,147,483,647
     ValueOutOfRange(usize),
-    // no later adder reads this one, and it is not the last; or this adder of a row is empty though the output reads it, directly or through others, or filled though it does not
+    // no later adder of a chain reads this one, and it is not the last
     AdderUnread(usize),
+    // this adder of a row is empty though the output reads it, directly or through others, or filled though it does not
+    AdderNotAsRead(usize),
     // a select code above 15
     CodeAboveFifteen,
     // a select code that has a row already
@@ -103,7 +105,7 @@ impl Refusal {
             Refusal::ShiftOutOfRange(_) => 13,
             Refusal::SourceNotLower(_) => 14,
             Refusal::ValueOutOfRange(_) => 15,
-            Refusal::AdderUnread(_) => 16,
+            Refusal::AdderUnread(_) | Refusal::AdderNotAsRead(_) => 16,
             Refusal::CodeAboveFifteen => 20,
             Refusal::CodeLive => 21,
             Refusal::BlockTooSmall => 22,
@@ -136,7 +138,8 @@ impl Refusal {
             Refusal::ShiftOutOfRange(adder)
             | Refusal::SourceNotLower(adder)
             | Refusal::ValueOutOfRange(adder)
-            | Refusal::AdderUnread(adder) => adder,
+            | Refusal::AdderUnread(adder)
+            | Refusal::AdderNotAsRead(adder) => adder,
             Refusal::BufferTooShort(length) => length,
             Refusal::RowBroken(line, _) => line,
             Refusal::SheetForm(line)

@@ -5,7 +5,7 @@ use Rattle.std.proofs.lemmas.Bool.Decides.{nat_tests}
 use Rattle.adders.specs.declared.wiring.Adder.{Adder}
 use Rattle.adders.specs.declared.wiring.Operand.{Operand}
 use Rattle.adders.specs.declared.refusals.Refusal.{Refusal}
-use Rattle.adders.specs.declared.refusals.Refusal.TheVariants.{AdderUnread}
+use Rattle.adders.specs.declared.refusals.Refusal.TheVariants.{AdderNotAsRead}
 use Rattle.adders.specs.Values.{Slots, sample, value}
 use Rattle.adders.specs.Rules.{first_broken, reading_rules, wiring_rules, rules_from, output_rules, InRange, Sound}
 use Rattle.adders.proofs.Broken.{some_none, whole_parts, whole_from}
@@ -78,15 +78,15 @@ module _ (xs : Slots) (source : ℕ) where
   use_each n [] h k l = absurd (omega arith)
   use_each n (y ∷ ys) h zero l =
       let b = beq (is_some y) (is_read 1 xs source n) in
-      same_true (is_some y) (is_read 1 xs source n) (alone (AdderUnread n) b (first_broken (use_rules xs source (n + 1) ys)) h).0 ∙ ap (is_read 1 xs source) (let p : n ≡ n + 0 = omega arith in p)
+      same_true (is_some y) (is_read 1 xs source n) (alone (AdderNotAsRead n) b (first_broken (use_rules xs source (n + 1) ys)) h).0 ∙ ap (is_read 1 xs source) (let p : n ≡ n + 0 = omega arith in p)
   use_each n (y ∷ ys) h (suc k) l =
       let b = beq (is_some y) (is_read 1 xs source n) in
-      use_each (n + 1) ys (alone (AdderUnread n) b (first_broken (use_rules xs source (n + 1) ys)) h).1 k (omega arith) ∙ ap (is_read 1 xs source) (let p : n + 1 + k ≡ n + suc k = omega arith in p)
+      use_each (n + 1) ys (alone (AdderNotAsRead n) b (first_broken (use_rules xs source (n + 1) ys)) h).1 k (omega arith) ∙ ap (is_read 1 xs source) (let p : n + 1 + k ≡ n + suc k = omega arith in p)
 
   use_all : (n : ℕ) (ys : Slots) → ((k : ℕ) → k < length ys → beq (is_some (get_or ys k None)) (is_read 1 xs source (n + k)) ≡ true) → first_broken (use_rules xs source n ys) ≡ None
   use_all n [] f = refl
   use_all n (y ∷ ys) f =
-      ap (λ b. cond b (first_broken (use_rules xs source (n + 1) ys)) (Some (AdderUnread n)))
+      ap (λ b. cond b (first_broken (use_rules xs source (n + 1) ys)) (Some (AdderNotAsRead n)))
       (ap (λ i. beq (is_some y) (is_read 1 xs source i)) (let p : n ≡ n + 0 = omega arith in p) ∙ f 0 (omega arith))
       ∙ use_all (n + 1) ys (λ k l. ap (λ i. beq (is_some (get_or ys k None)) (is_read 1 xs source i)) (let p : n + 1 + k ≡ n + suc k = omega arith in p) ∙ f (suc k) (omega arith))
 

@@ -5,7 +5,7 @@ use Rattle.std.specs.Prelude.{◌≡◌, ℕ, suc, ◌+◌, ◌*◌, ◌^◌, �
 use Rattle.std.specs.Bool.{beq}
 use Rattle.adders.specs.declared.wiring.Adder.{Adder}
 use Rattle.adders.specs.declared.wiring.Operand.{Operand}
-use Rattle.adders.specs.declared.refusals.Refusal.TheVariants.{AdderUnread}
+use Rattle.adders.specs.declared.refusals.Refusal.TheVariants.{AdderNotAsRead}
 use Rattle.adders.specs.Values.{Slots, sample, value}
 use Rattle.adders.specs.Rules.{Rule, rule, reading_rules, wiring_rules, rules_from, output_rules, InRange, Sound}
 use Rattle.rows.specs.Reading.{Reads, is_read}
@@ -30,7 +30,7 @@ output_wiring xs out = reading_rules (suc (length xs)) 0 out
 -- a slot holds an adder exactly if the output reads it; the slots ys are those from adder n on
 abbrev pub use_rules : Slots → ℕ → ℕ → Slots → List Rule
 use_rules xs source n [] = []
-use_rules xs source n (y ∷ ys) = rule (beq (is_some y) (is_read 1 xs source n)) (AdderUnread n) ∷ use_rules xs source (n + 1) ys
+use_rules xs source n (y ∷ ys) = rule (beq (is_some y) (is_read 1 xs source n)) (AdderNotAsRead n) ∷ use_rules xs source (n + 1) ys
 
 -- sources and shifts first, then which adders are used; last the rules of adders and output that a chain has too, of which only the ranges can still be broken
 abbrev pub row_rules : Slots → Operand → List Rule

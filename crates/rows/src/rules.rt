@@ -71,7 +71,7 @@ impl Wiring {
         let read = self.sources_read();
         for (i, slot) in self.slots.iter().enumerate() {
             if slot.is_some() != read[i + 1] {
-                return Err(Refusal::AdderUnread(i + 1));
+                return Err(Refusal::AdderNotAsRead(i + 1));
             }
         }
         Ok(())
