@@ -7,20 +7,21 @@ mod table;
 use std::io;
 use table::Case;
 
-// How many cases agree; the others are named.
-fn agreed(rt: &HostRuntime, cases: &[Case]) -> io::Result<usize> {
+// How many cases of a table agree; the others are named.
+fn compare(rt: &HostRuntime, name: &str, cases: &[Case]) -> io::Result<()> {
     for case in cases.iter().filter(|case| !case.agrees()) {
         let name = case.name;
         println!(rt; "differs: {name}")?;
     }
-    Ok(cases.iter().filter(|case| case.agrees()).count())
+    let agreed = cases.iter().filter(|case| case.agrees()).count();
+    println!(rt; "{name}: {agreed} of {} agree", cases.len())
 }
 
 fn main(rt: HostRuntime) -> io::Result<()> {
-    let wirings = agreed(&rt, &table::wirings())?;
-    let uses = agreed(&rt, &table::uses())?;
-    let ranges = agreed(&rt, &table::ranges())?;
-    println!(rt; "of 6 rows each agree {wirings}, {uses}, {ranges}")?;
+    compare(&rt, "sources and shifts", &table::wirings())?;
+    compare(&rt, "unread adders", &table::unread())?;
+    compare(&rt, "read adders", &table::read())?;
+    compare(&rt, "values", &table::ranges())?;
     let verdicts = [
         ("adders of a row", table::adders_agree()),
         ("moduli at the limits", samples::moduli_agree()),

@@ -14,6 +14,15 @@ pub(crate) struct Case {
 }
 
 impl Case {
+    fn new(name: &'static str, slots: [Option<Adder>; 8], output: Operand, answer: Answer) -> Case {
+        Case {
+            name,
+            slots,
+            output,
+            answer,
+        }
+    }
+
     pub(crate) fn agrees(&self) -> bool {
         let answer = Row::new(self.slots, self.output)
             .map(|row| row.constant())
@@ -35,6 +44,11 @@ fn five() -> Option<Adder> {
     adder(operand(0, 0), Sign::Plus, operand(0, 2))
 }
 
+// Nine times adder 2.
+fn chained() -> Option<Adder> {
+    adder(operand(2, 0), Sign::Plus, operand(2, 3))
+}
+
 // An adder in the slot of its number and nothing else.
 fn alone(number: usize, adder: Option<Adder>) -> [Option<Adder>; 8] {
     std::array::from_fn(|i| if i + 1 == number { adder } else { None })
@@ -43,143 +57,146 @@ fn alone(number: usize, adder: Option<Adder>) -> [Option<Adder>; 8] {
 // Sources and shifts.
 pub(crate) fn wirings() -> [Case; 6] {
     [
-        Case {
-            name: "an adder that reads itself",
-            slots: alone(3, adder(operand(3, 0), Sign::Plus, operand(0, 0))),
-            output: operand(3, 0),
-            answer: Err((14, 3)),
-        },
-        Case {
-            name: "a right shift of 31 after a left source too high",
-            slots: alone(2, adder(operand(2, 0), Sign::Plus, operand(0, 31))),
-            output: operand(2, 0),
-            answer: Err((14, 2)),
-        },
-        Case {
-            name: "a right shift of 31",
-            slots: alone(2, adder(operand(0, 0), Sign::Plus, operand(0, 31))),
-            output: operand(2, 0),
-            answer: Err((13, 2)),
-        },
-        Case {
-            name: "an output that reads a ninth adder",
-            slots: [None; 8],
-            output: operand(9, 31),
-            answer: Err((14, 0)),
-        },
-        Case {
-            name: "an output shift of 31",
-            slots: [None; 8],
-            output: operand(0, 31),
-            answer: Err((13, 0)),
-        },
-        Case {
-            name: "the sample as it is",
-            slots: [None; 8],
-            output: operand(0, 0),
-            answer: Ok(1),
-        },
+        Case::new(
+            "an adder that reads itself",
+            alone(3, adder(operand(3, 0), Sign::Plus, operand(0, 0))),
+            operand(3, 0),
+            Err((14, 3)),
+        ),
+        Case::new(
+            "a right shift of 31 after a left source too high",
+            alone(2, adder(operand(2, 0), Sign::Plus, operand(0, 31))),
+            operand(2, 0),
+            Err((14, 2)),
+        ),
+        Case::new(
+            "a right shift of 31",
+            alone(2, adder(operand(0, 0), Sign::Plus, operand(0, 31))),
+            operand(2, 0),
+            Err((13, 2)),
+        ),
+        Case::new(
+            "an output that reads a ninth adder",
+            [None; 8],
+            operand(9, 31),
+            Err((14, 0)),
+        ),
+        Case::new(
+            "an output shift of 31",
+            [None; 8],
+            operand(0, 31),
+            Err((13, 0)),
+        ),
+        Case::new("the sample as it is", [None; 8], operand(0, 0), Ok(1)),
     ]
 }
 
-// Which adders are used.
-pub(crate) fn uses() -> [Case; 6] {
-    let chained = adder(operand(2, 0), Sign::Plus, operand(2, 3));
-    let mut through = alone(2, five());
-    through[6] = chained;
-    let mut beside = through;
+// Adders 2 and 7, of which 7 reads 2.
+fn through() -> [Option<Adder>; 8] {
+    let mut slots = alone(2, five());
+    slots[6] = chained();
+    slots
+}
+
+// Adders that are there though the output does not read them.
+pub(crate) fn unread() -> [Case; 4] {
+    let mut beside = through();
     beside[3] = five();
-    let mut lost = alone(7, chained);
+    let mut dangling = through();
+    dangling[7] = five();
+    [
+        Case::new(
+            "an adder that nothing reads",
+            beside,
+            operand(7, 0),
+            Err((16, 4)),
+        ),
+        Case::new(
+            "an adder that only an unread one reads",
+            dangling,
+            operand(8, 0),
+            Err((16, 2)),
+        ),
+        Case::new(
+            "adders under an output that reads the sample",
+            through(),
+            operand(0, 0),
+            Err((16, 2)),
+        ),
+        Case::new(
+            "an unread adder before a value out of range",
+            alone(1, adder(operand(0, 0), Sign::Minus, operand(0, 0))),
+            operand(0, 0),
+            Err((16, 1)),
+        ),
+    ]
+}
+
+// Adders that the output reads.
+pub(crate) fn read() -> [Case; 3] {
+    let mut lost = alone(7, chained());
     lost[3] = five();
     [
-        Case {
-            name: "an adder through another, both away from the front",
-            slots: through,
-            output: operand(7, 0),
-            answer: Ok(45),
-        },
-        Case {
-            name: "an adder that nothing reads",
-            slots: beside,
-            output: operand(7, 0),
-            answer: Err((16, 4)),
-        },
-        Case {
-            name: "an empty adder that is read through another",
-            slots: lost,
-            output: operand(7, 0),
-            answer: Err((16, 2)),
-        },
-        Case {
-            name: "an adder that only an unread one reads",
-            slots: through,
-            output: operand(2, 0),
-            answer: Err((16, 7)),
-        },
-        Case {
-            name: "adders under an output that reads the sample",
-            slots: through,
-            output: operand(0, 0),
-            answer: Err((16, 2)),
-        },
-        Case {
-            name: "an output that reads an empty adder",
-            slots: [None; 8],
-            output: operand(8, 0),
-            answer: Err((16, 8)),
-        },
+        Case::new(
+            "an adder through another, both away from the front",
+            through(),
+            operand(7, 0),
+            Ok(45),
+        ),
+        Case::new(
+            "an empty adder that is read through another",
+            lost,
+            operand(7, 0),
+            Err((16, 2)),
+        ),
+        Case::new(
+            "an output that reads an empty adder",
+            [None; 8],
+            operand(8, 0),
+            Err((16, 8)),
+        ),
     ]
 }
 
 // Values.
-pub(crate) fn ranges() -> [Case; 6] {
-    let mut unused = alone(1, adder(operand(0, 0), Sign::Minus, operand(0, 0)));
-    unused[1] = five();
+pub(crate) fn ranges() -> [Case; 5] {
     [
-        Case {
-            name: "a difference of 0",
-            slots: alone(4, adder(operand(0, 0), Sign::Minus, operand(0, 0))),
-            output: operand(4, 0),
-            answer: Err((15, 4)),
-        },
-        Case {
-            name: "a difference below 0",
-            slots: alone(4, adder(operand(0, 0), Sign::Minus, operand(0, 1))),
-            output: operand(4, 0),
-            answer: Err((15, 4)),
-        },
-        Case {
-            name: "a sum of 2^30 and 2^29",
-            slots: alone(1, adder(operand(0, 30), Sign::Plus, operand(0, 29))),
-            output: operand(1, 0),
-            answer: Ok(1_610_612_736),
-        },
-        Case {
-            name: "a sum too large",
-            slots: alone(1, adder(operand(0, 30), Sign::Plus, operand(0, 30))),
-            output: operand(1, 0),
-            answer: Err((15, 1)),
-        },
-        Case {
-            name: "an output too large",
-            slots: alone(1, five()),
-            output: operand(1, 29),
-            answer: Err((15, 0)),
-        },
-        Case {
-            name: "an unread adder before a value out of range",
-            slots: unused,
-            output: operand(2, 0),
-            answer: Err((16, 1)),
-        },
+        Case::new(
+            "a difference of 0",
+            alone(4, adder(operand(0, 0), Sign::Minus, operand(0, 0))),
+            operand(4, 0),
+            Err((15, 4)),
+        ),
+        Case::new(
+            "a difference below 0",
+            alone(4, adder(operand(0, 0), Sign::Minus, operand(0, 1))),
+            operand(4, 0),
+            Err((15, 4)),
+        ),
+        Case::new(
+            "a sum of 2^30 and 2^29",
+            alone(1, adder(operand(0, 30), Sign::Plus, operand(0, 29))),
+            operand(1, 0),
+            Ok(1_610_612_736),
+        ),
+        Case::new(
+            "a sum too large",
+            alone(1, adder(operand(0, 30), Sign::Plus, operand(0, 30))),
+            operand(1, 0),
+            Err((15, 1)),
+        ),
+        Case::new(
+            "an output too large",
+            alone(1, five()),
+            operand(1, 29),
+            Err((15, 0)),
+        ),
     ]
 }
 
-// What a row says of its adders, at the numbers of the first case above and around them.
+// What a row says of its adders, at their numbers and around them.
 pub(crate) fn adders_agree() -> bool {
-    let mut slots = alone(2, five());
-    slots[6] = adder(operand(2, 0), Sign::Plus, operand(2, 3));
-    let Ok(row) = Row::new(slots, operand(7, 1)) else {
+    let Ok(row) = Row::new(through(), operand(7, 1)) else {
         return false;
     };
     row.constant() == 90
