@@ -2,6 +2,7 @@
 --   vs             the values of the sources below the adder, so that their count is the adder's number
 --   first_broken   the refusal of the first rule that does not hold
 --   Tried          what a call answers that tries rules
+--   Changed        the same of a call that changes something
 use Rattle.std.specs.Prelude.{◌≡◌, ℕ, suc, ◌*◌, ◌^◌, ◌<◌, ◌≤◌, Bool, cond, ◌&&◌, List, [], ◌∷◌, ◌++◌, length, Some, None, Ok, Err, Option, Result, nat_le, nat_lt, slice_index_or}
 use Rattle.adders.specs.declared.wiring.Operand.{Operand}
 use Rattle.adders.specs.declared.wiring.Adder.{Adder}
@@ -24,6 +25,11 @@ first_broken (r ∷ rs) = cond r.holds (first_broken rs) (Some r.refusal)
 abbrev pub Tried : {A : Type 0} → List Rule → A → Result A Refusal → Type 0
 Tried rs v (Ok x) = (first_broken rs ≡ None) × (x ≡ v)
 Tried rs v (Err e) = first_broken rs ≡ Some e
+
+-- what is answered and left by a call that tries rules and then changes something: what Done says of both where all hold, else the refusal of the first that does not, and what was there before
+abbrev pub Changed : {A X : Type 0} → List Rule → A → (X → A → Type 0) → Result X Refusal → A → Type 0
+Changed rs before Done (Ok x) after = (first_broken rs ≡ None) × Done x after
+Changed rs before Done (Err e) after = (first_broken rs ≡ Some e) × (after ≡ before)
 
 -- a chain has at most eight adders: they are answered as they are, more are turned down
 abbrev pub FewEnough : List Adder → Result (List Adder) Refusal → Type 0

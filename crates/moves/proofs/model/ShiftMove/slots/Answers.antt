@@ -1,0 +1,31 @@
+use Rattle.std.proofs.Common.{◌≡◌, ◌+◌, length, drop, ap, ◌∙◌, arith, rules}
+use Rattle.std.proofs.lemmas.List.{length-set}
+use Rattle.std.proofs.lemmas.Result.{err_from_is_err_and}
+use Rattle.adders.specs.Rules.{first_broken}
+use Rattle.adders.proofs.Broken.{otherwise}
+use Rattle.moves.specs.Moves.{moves_from}
+use Rattle.moves.proofs.Turns.{moves_more, moved_more}
+use Rattle.moves.proofs.model.ShiftMove.slots.Goals as goal
+
+pub returns-in_err-moved : goal.returns-in_err-moved
+returns-in_err-moved c =
+    let p = err_from_is_err_and c.from_residual.result c.from_residual.ensures.1 in
+    let m = c.args.self in
+    let xs = c.args.slots in
+    let i = c.loop-i.i in
+    let eight : length xs ≡ 8 = search rules in
+    rw (p.1, p.2) (c.loop-i.invariant.1 ∙ moves_more m.adder m.amount xs i (omega arith) ∙ ap (λ o. otherwise o (first_broken (moves_from m.adder m.amount (i + 1 + 1) (drop (i + 1) xs)))) c.in_err-moved.ensures)
+
+pub loop-i-preserved : goal.loop-i-preserved
+loop-i-preserved c =
+    let m = c.args.self in
+    let xs = c.args.slots in
+    let i = c.loop-i.i in
+    let moved = c.loop-i.moved in
+    let y = c.in_ok-moved.field-0 in
+    let eight : length xs ≡ 8 = search rules in
+    let told = c.in_ok-moved.ensures in (
+      length-set moved i y ∙ c.loop-i.invariant.0,
+      c.loop-i.invariant.1 ∙ moves_more m.adder m.amount xs i (omega arith) ∙ ap (λ o. otherwise o (first_broken (moves_from m.adder m.amount (i + 1 + 1) (drop (i + 1) xs)))) told.0,
+      c.loop-i.invariant.2 ∙ moved_more m.adder m.amount xs i (omega arith) moved y (omega (arith, c.loop-i.invariant.0)) told.1,
+    )

@@ -1,0 +1,27 @@
+-- What a table of rows holds at a code.
+use Rattle.std.specs.Prelude.{◌≡◌, ℕ, cond, List, [], ◌∷◌, ◌++◌, is_some, Some, None, Ok, Err, Option, Result, nat_le, slice_index_or, slice_set}
+use Rattle.adders.specs.declared.refusals.Refusal.{Refusal}
+use Rattle.adders.specs.declared.refusals.Refusal.TheVariants.{CodeAboveFifteen, CodeIdle}
+use Rattle.adders.specs.Rules.{Rule, rule, first_broken}
+use Rattle.tables.specs.declared.Table.{Table}
+
+-- the row at a code, none where the code is idle or above 15
+abbrev pub row_at : {X : Type 0} → Table X → ℕ → Option X
+row_at t code = cond (nat_le code 15) (slice_index_or t.rows code None) None
+
+-- the table with one place written, the other fifteen as they were
+abbrev pub with_place : {X : Type 0} → Table X → ℕ → Option X → Table X
+with_place t code w = record { rows = slice_set t.rows code w }
+
+-- a code is one of sixteen
+abbrev pub code_rules : ℕ → List Rule
+code_rules code = rule (nat_le code 15) CodeAboveFifteen ∷ []
+
+-- it is live too
+abbrev pub live_rules : {X : Type 0} → Table X → ℕ → List Rule
+live_rules t code = code_rules code ++ rule (is_some (row_at t code)) CodeIdle ∷ []
+
+-- the row of a live code, as it is seen through what is answered, or the first cause why there is none
+abbrev pub Found : {X Y : Type 0} → Table X → ℕ → (Y → X) → Result Y Refusal → Type 0
+Found t code seen (Ok y) = row_at t code ≡ Some (seen y)
+Found t code seen (Err e) = first_broken (live_rules t code) ≡ Some e
