@@ -16,6 +16,13 @@ broken_append (r ∷ rs) ss = by_first r.holds (broken_append rs ss)
     by_first true e = e
     by_first false e = refl
 
+-- the first rules are broken, or hold
+pub broken_first : (rs ss : List Rule) (r : Refusal) → first_broken rs ≡ Some r → first_broken (rs ++ ss) ≡ Some r
+broken_first rs ss r h = broken_append rs ss ∙ ap (λ o. otherwise o (first_broken ss)) h
+
+pub broken_rest : (rs ss : List Rule) → first_broken rs ≡ None → first_broken (rs ++ ss) ≡ first_broken ss
+broken_rest rs ss h = broken_append rs ss ∙ ap (λ o. otherwise o (first_broken ss)) h
+
 pub some_none : {A : Type 0} {x : A} → Some x ≡ None → ⊥
 some_none e = let z : ◌≡◌ {A = ℕ} 0 1 = cc in omega arith
 

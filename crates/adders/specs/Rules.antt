@@ -1,8 +1,9 @@
 -- The rules of an adder, in the order in which they are tried, each with the refusal of its breach.
 --   vs             the values of the sources below the adder, so that their count is the adder's number
 --   first_broken   the refusal of the first rule that does not hold
---   Tried          what a call answers that tries rules
---   Changed        the same of a call that changes something
+--   Answered       what a call answers that tries rules
+--   Tried          the same where it answers a value that is known
+--   Changed        the same where it changes something
 use Rattle.std.specs.Prelude.{◌≡◌, ℕ, suc, ◌*◌, ◌^◌, ◌<◌, ◌≤◌, Bool, cond, ◌&&◌, List, [], ◌∷◌, ◌++◌, length, Some, None, Ok, Err, Option, Result, nat_le, nat_lt, slice_index_or}
 use Rattle.adders.specs.declared.wiring.Operand.{Operand}
 use Rattle.adders.specs.declared.wiring.Adder.{Adder}
@@ -21,13 +22,17 @@ abbrev pub first_broken : List Rule → Option Refusal
 first_broken [] = None
 first_broken (r ∷ rs) = cond r.holds (first_broken rs) (Some r.refusal)
 
--- what is answered where rules are tried: the value where all hold, else the refusal of the first that does not
-abbrev pub Tried : {A : Type 0} → List Rule → A → Result A Refusal → Type 0
-Tried rs v (Ok x) = (first_broken rs ≡ None) × (x ≡ v)
-Tried rs v (Err e) = first_broken rs ≡ Some e
+-- what is answered where rules are tried: what Done says where all hold, else the refusal of the first that does not
+abbrev pub Answered : {A : Type 0} → List Rule → (A → Type 0) → Result A Refusal → Type 0
+Answered rs Done (Ok x) = (first_broken rs ≡ None) × Done x
+Answered rs Done (Err e) = first_broken rs ≡ Some e
 
--- what is answered and left by a call that tries rules and then changes something: what Done says of both where all hold, else the refusal of the first that does not, and what was there before
-abbrev pub Changed : {A X : Type 0} → List Rule → A → (X → A → Type 0) → Result X Refusal → A → Type 0
+-- a value
+abbrev pub Tried : {A : Type 0} → List Rule → A → Result A Refusal → Type 0
+Tried rs v r = Answered rs (λ x. x ≡ v) r
+
+-- a call that changes something: a refusal leaves what was there before
+abbrev pub Changed : {S A : Type 0} → List Rule → S → (A → S → Type 0) → Result A Refusal → S → Type 0
 Changed rs before Done (Ok x) after = (first_broken rs ≡ None) × Done x after
 Changed rs before Done (Err e) after = (first_broken rs ≡ Some e) × (after ≡ before)
 

@@ -1,6 +1,6 @@
 // A move, and what it makes of operands, adders and slots.
-ghost use Rattle.std.specs.Prelude.{◌≡◌, ◌≤ℤ◌, [], ◌∷◌, pos, negsuc, Some, None, IfOk, IfErr};
-ghost use Rattle.adders.specs.Rules.{Tried, first_broken};
+ghost use Rattle.std.specs.Prelude.{◌≡◌, ◌≤ℤ◌, [], ◌∷◌, pos, negsuc};
+ghost use Rattle.adders.specs.Rules.{Answered, Tried};
 ghost use Rattle.moves.specs.Moves.{amount_rules, rise, new_shift, operand_moves, adder_moves, slot_moves, moves_from, moved_operand, moved_adder, moved_slot, moved_from};
 
 use adders::{Adder, Operand, Refusal};
@@ -21,13 +21,19 @@ pub struct ShiftMove {
 impl ShiftMove {
     // The move of an adder by an amount from -30 to 30.
     pub fn new(adder: usize, amount: i64) -> Result<ShiftMove, Refusal>
-        ensures kept { IfOk result (λ m. (first_broken (amount_rules amount) ≡ None) × (m.adder ≡ adder) × (m.amount ≡ amount)) }
-        ensures broken { IfErr result (λ e. first_broken (amount_rules amount) ≡ Some e) }
+        ensures { Answered (amount_rules amount) (λ m. (m.adder ≡ adder) × (m.amount ≡ amount)) result }
     {
         if !(-MOST_AMOUNT..=MOST_AMOUNT).contains(&amount) {
             return Err(Refusal::AmountOutOfRange);
         }
         Ok(ShiftMove { adder, amount })
+    }
+
+    // The adder whose own shifts rise.
+    pub fn adder(self) -> usize
+        ensures { result ≡ self.adder }
+    {
+        self.adder
     }
 
     // By how many bits the value of a source rises.
@@ -47,7 +53,7 @@ impl ShiftMove {
     }
 
     // The operand that a reader has afterwards, or the refusal of its shift; the output is the reader 0.
-    pub fn operand(self, operand: Operand, reader: usize) -> Result<Operand, Refusal>
+    pub fn moved_operand(self, operand: Operand, reader: usize) -> Result<Operand, Refusal>
         ensures { Tried (operand_moves self.adder self.amount reader operand) (moved_operand self.adder self.amount reader operand) result }
     {
         let shift = self.new_shift(operand, reader);
@@ -61,33 +67,33 @@ impl ShiftMove {
     }
 
     // The adder with this number afterwards, or the refusal of its first shift that leaves its range.
-    pub fn adder(self, adder: Adder, number: usize) -> Result<Adder, Refusal>
+    pub fn moved_adder(self, adder: Adder, number: usize) -> Result<Adder, Refusal>
         ensures { Tried (adder_moves self.adder self.amount number adder) (moved_adder self.adder self.amount number adder) result }
     {
         Ok(Adder {
-            left: self.operand(adder.left, number)?,
+            left: self.moved_operand(adder.left, number)?,
             sign: adder.sign,
-            right: self.operand(adder.right, number)?,
+            right: self.moved_operand(adder.right, number)?,
         })
     }
 
     // The same of an adder that may be absent.
-    fn slot(self, slot: Option<Adder>, number: usize) -> Result<Option<Adder>, Refusal>
+    fn moved_slot(self, slot: Option<Adder>, number: usize) -> Result<Option<Adder>, Refusal>
         ensures { Tried (slot_moves self.adder self.amount number slot) (moved_slot self.adder self.amount number slot) result }
     {
         let Some(adder) = slot else {
             return Ok(None);
         };
-        Ok(Some(self.adder(adder, number)?))
+        Ok(Some(self.moved_adder(adder, number)?))
     }
 
     // All adders of a row afterwards, or the refusal of the first shift that leaves its range.
-    pub fn slots(self, slots: [Option<Adder>; 8]) -> Result<[Option<Adder>; 8], Refusal>
+    pub fn moved_slots(self, slots: [Option<Adder>; 8]) -> Result<[Option<Adder>; 8], Refusal>
         ensures { Tried (moves_from self.adder self.amount 1 slots) (moved_from self.adder self.amount 1 slots) result }
     {
         let mut moved = slots;
         for (i, slot) in slots.iter().enumerate() {
-            moved[i] = self.slot(*slot, i + 1)?;
+            moved[i] = self.moved_slot(*slot, i + 1)?;
         }
         Ok(moved)
     }

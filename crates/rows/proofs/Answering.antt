@@ -50,6 +50,9 @@ pub valued_ok : (r : Row) (v : Result (List ℕ) Refusal) → Tried (rules_from 
 valued_ok r (Ok at) t = refl
 valued_ok r (Err e) t = absurd (some_none (sym t ∙ (sounds.say r.slots).1 (row_keeps r).adders))
 
+pub valued : (r : Row) (v : Result (List ℕ) Refusal) (at : List ℕ) → Tried (rules_from sample r.slots) (values_from sample r.slots) v → v ≡ Ok at → at ≡ values_from sample r.slots
+valued r v at t e = (subst (Tried (rules_from sample r.slots) (values_from sample r.slots)) e t).1
+
 -- an adder that the row uses
 pub record There (r : Row) (j : ℕ) (a : Adder) : Type 0 where
   pub low : 1 ≤ j

@@ -4,3 +4,5 @@ pub mod Keeping
 pub mod Judging
 pub mod Chained
 pub mod Answering
+pub mod Moving
+pub mod Causes

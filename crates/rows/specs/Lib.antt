@@ -1,3 +1,4 @@
 pub mod Reading
 pub mod Rules
 pub mod Rows
+pub mod Moving

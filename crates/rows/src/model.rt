@@ -6,6 +6,7 @@ ghost use Rattle.rows.specs.Rules.{row_rules};
 use adders::{Adder, Operand};
 
 pub mod calls;
+pub mod moving;
 
 // For each of eight adders nothing or its operands and its sign, and what the output reads.
 #[derive(Clone, Copy)]

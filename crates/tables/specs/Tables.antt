@@ -1,8 +1,8 @@
 -- What a table of rows holds at a code.
-use Rattle.std.specs.Prelude.{◌≡◌, ℕ, cond, List, [], ◌∷◌, ◌++◌, is_some, Some, None, Ok, Err, Option, Result, nat_le, slice_index_or, slice_set}
+use Rattle.std.specs.Prelude.{◌≡◌, ℕ, cond, List, [], ◌∷◌, ◌++◌, is_some, Some, None, Option, Result, nat_le, slice_index_or, slice_set}
 use Rattle.adders.specs.declared.refusals.Refusal.{Refusal}
 use Rattle.adders.specs.declared.refusals.Refusal.TheVariants.{CodeAboveFifteen, CodeIdle}
-use Rattle.adders.specs.Rules.{Rule, rule, first_broken}
+use Rattle.adders.specs.Rules.{Rule, rule, Answered}
 use Rattle.tables.specs.declared.Table.{Table}
 
 -- the row at a code, none where the code is idle or above 15
@@ -23,5 +23,4 @@ live_rules t code = code_rules code ++ rule (is_some (row_at t code)) CodeIdle �
 
 -- the row of a live code, as it is seen through what is answered, or the first cause why there is none
 abbrev pub Found : {X Y : Type 0} → Table X → ℕ → (Y → X) → Result Y Refusal → Type 0
-Found t code seen (Ok y) = row_at t code ≡ Some (seen y)
-Found t code seen (Err e) = first_broken (live_rules t code) ≡ Some e
+Found t code seen r = Answered (live_rules t code) (λ y. row_at t code ≡ Some (seen y)) r

@@ -4,7 +4,7 @@
 ghost use Rattle.std.specs.Prelude.{◌≡◌, ◌<◌, replicate, Some, None, slice_index_or};
 ghost use Rattle.std.specs.Borrow.{sem, Lends, LendsIfOk};
 ghost use Rattle.std.specs.contracts.option.Option.{the_row as option_row};
-ghost use Rattle.adders.specs.Rules.{Tried, Changed};
+ghost use Rattle.adders.specs.Rules.{Changed};
 ghost use Rattle.tables.specs.Tables.{Found, code_rules, live_rules, row_at, with_place};
 ghost use Rattle.tables.specs.contracts.Table.{the_row as table_row};
 

@@ -1,7 +1,7 @@
 use Rattle.std.proofs.Common.{◌≡◌, ◌+◌, ◌++◌, length, take, drop}
 use Rattle.adders.specs.Rules.{first_broken}
 use Rattle.moves.specs.Moves.{moves_from, moved_from}
-use Rattle.moves.proofs.model.ShiftMove.slots.Given as goal
+use Rattle.moves.proofs.model.ShiftMove.moved_slots.Given as goal
 
 abbrev pub invariant-loop-i : goal.invariant-loop-i
 invariant-loop-i l =

@@ -5,7 +5,7 @@ use Rattle.adders.specs.Rules.{first_broken}
 use Rattle.adders.proofs.Broken.{otherwise}
 use Rattle.moves.specs.Moves.{moves_from}
 use Rattle.moves.proofs.Turns.{moves_more, moved_more}
-use Rattle.moves.proofs.model.ShiftMove.slots.Goals as goal
+use Rattle.moves.proofs.model.ShiftMove.moved_slots.Goals as goal
 
 pub returns-in_err-moved : goal.returns-in_err-moved
 returns-in_err-moved c =
