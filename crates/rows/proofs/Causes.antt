@@ -1,21 +1,21 @@
 -- The causes against a move, one stage after the other.
-use Rattle.std.proofs.Common.{◌≡◌, ℕ, suc, ◌+◌, ◌-◌, ◌*◌, ◌^◌, ◌<◌, ◌≤◌, ◌&&◌, Bool, true, false, cond, ℤ, List, [], ◌∷◌, ◌++◌, length, get_or, take, is_some, Some, None, sym, refl, ap, ◌∙◌, subst, arith}
+use Rattle.std.proofs.Common.{◌≡◌, ℕ, suc, ◌+◌, ◌-◌, ◌*◌, ◌^◌, ◌<◌, ◌≤◌, ◌&&◌, Bool, true, false, cond, ℤ, List, [], ◌∷◌, ◌++◌, length, get_or, take, is_some, Some, None, Option, sym, refl, ap, ◌∙◌, subst, arith}
 use Rattle.std.proofs.lemmas.List.{get_or-take, length-take-le}
 use Rattle.std.proofs.lemmas.Bool.Decides.{nat_tests}
 use Rattle.adders.specs.declared.wiring.Adder.{Adder}
 use Rattle.adders.specs.declared.wiring.Operand.{Operand}
 use Rattle.adders.specs.declared.refusals.Refusal.{Refusal}
-use Rattle.adders.specs.declared.refusals.Refusal.TheVariants.{ValueOutOfRange}
+use Rattle.adders.specs.declared.refusals.Refusal.TheVariants.{AdderUnused, ValueOutOfRange}
 use Rattle.adders.specs.Values.{Slots, operand_value, adder_value, combined, values_from, sample, value}
 use Rattle.adders.specs.Rules.{Rule, rule, first_broken, in_range, InRange, operand_rules, adder_rules}
-use Rattle.adders.proofs.Broken.{broken_first, broken_rest, whole_parts}
+use Rattle.adders.proofs.Broken.{some_none, broken_first, broken_rest, whole_parts}
 use Rattle.adders.proofs.Follow.{follow, within, length_values}
-use Rattle.moves.specs.Moves.{operand_moves, slot_moves, moves_from, moved_operand, moved_adder, moved_slot, moved_from}
+use Rattle.moves.specs.Moves.{amount_rules, operand_moves, slot_moves, moves_from, moved_operand, moved_adder, moved_slot, moved_from}
 use Rattle.moves.proofs.Scales.{Fits, adder_fits, at_moved, length_moved}
 use Rattle.rows.specs.declared.model.Row.{Row}
 use Rattle.rows.specs.Rules.{row_constant, row_rules, KeepsRow}
 use Rattle.rows.specs.Rows.{adder_at, constant_of}
-use Rattle.rows.specs.Moving.{value_after, range_rules, moving_rules, MovedRow}
+use Rattle.rows.specs.Moving.{value_after, range_rules, moving_rules, move_rules, MovedRow}
 use Rattle.rows.proofs.Moving.{stays, constant_stays, moved_range, keeps_moved}
 use Rattle.rows.proofs.Answering.{row_keeps, there}
 use Rattle.rows.proofs.Keeping.{rules_from_keeps}
@@ -144,3 +144,12 @@ constant_kept r after a z x used h moved =
     let rest = whole_parts readers (outputs ++ ranges) (whole_parts (slot_moves a z a (adder_at r a)) (readers ++ (outputs ++ ranges)) h).1 in
     (λ i. row_constant (moved.slots i) (moved.output i))
     ∙ constant_stays r.slots r.output a z (row_keeps r) (there r a x used).low rest.0 (whole_parts outputs ranges rest.1).0
+
+used_then : (r : Row) (a : ℕ) (z : ℤ) (o : Option Adder) → cond (is_some o) (first_broken (amount_rules z ++ moving_rules r a z)) (Some AdderUnused) ≡ None → (x : Adder) × (o ≡ Some x) × (first_broken (amount_rules z ++ moving_rules r a z) ≡ None)
+used_then r a z None e = absurd (some_none e)
+used_then r a z (Some x) e = (x, refl, e)
+
+pub move_keeps_constant : (r after : Row) (a : ℕ) (z : ℤ) → first_broken (move_rules r a z) ≡ None → MovedRow r a z after → constant_of after ≡ constant_of r
+move_keeps_constant r after a z h moved =
+    let u = used_then r a z (adder_at r a) h in
+    constant_kept r after a z u.0 u.1 (whole_parts (amount_rules z) (moving_rules r a z) u.2).1 moved

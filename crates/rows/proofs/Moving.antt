@@ -1,5 +1,5 @@
 -- A row whose shifts were moved keeps every rule, and its constant.
-use Rattle.std.proofs.Common.{◌≡◌, ℕ, zero, suc, ◌+◌, ◌*◌, ◌^◌, ◌<◌, ◌≤◌, Bool, cond, ◌≢◌, ℤ, pos, length, get_or, is_some, Some, None, Option, sym, refl, ap, ◌∙◌, subst, inl, inr, ⊎_elim, mul-one, one-mul, mul-le-mul_right, arith}
+use Rattle.std.proofs.Common.{◌≡◌, ℕ, zero, suc, ◌+◌, ◌-◌, ◌*◌, ◌^◌, ◌<◌, ◌≤◌, Bool, true, false, cond, leb, ◌≢◌, ℤ, pos, length, get_or, is_some, Some, None, Option, sym, refl, ap, ◌∙◌, subst, inl, inr, ⊎_elim, mul-one, one-mul, mul-le-mul_right, arith}
 use Rattle.std.proofs.Math.Nat.{mul-le-mul_left, zero-mul}
 use Rattle.std.proofs.lemmas.Nat.{pow_pos}
 use Rattle.std.proofs.lemmas.Bool.{cases_eq, ne_eqb}
@@ -12,9 +12,26 @@ use Rattle.adders.proofs.Broken.{some_none}
 use Rattle.adders.proofs.Follow.{within}
 use Rattle.moves.specs.Moves.{rise, operand_moves, moves_from, moved_operand, moved_adder, moved_slot, moved_from}
 use Rattle.moves.proofs.Scales.{up, down, Balanced, Fits, fits, operand_moved, at_moved, length_moved, adder_fits, balanced, moving_scales}
+use Rattle.rows.specs.declared.model.Row.{Row}
+use Rattle.rows.specs.Rows.{adder_at}
 use Rattle.rows.specs.Reading.{HasSource, Reads, directly, through}
 use Rattle.rows.specs.Rules.{row_constant, KeepsRow}
-use Rattle.rows.specs.Moving.{value_after, range_rules}
+use Rattle.rows.specs.Moving.{value_after, range_rules, MovedRow}
+
+-- a moved row uses the adders that it used
+slot_used : (a : ℕ) (z : ℤ) (j : ℕ) (o : Option Adder) → is_some (moved_slot a z j o) ≡ is_some o
+slot_used a z j None = refl
+slot_used a z j (Some x) = refl
+
+pub uses_kept : (r after : Row) (a : ℕ) (z : ℤ) → MovedRow r a z after → (j : ℕ) → is_some (adder_at after j) ≡ is_some (adder_at r j)
+uses_kept r after a z moved j =
+    ap (λ ys. is_some (cond (leb 1 j) (get_or ys (j - 1) None) None)) moved.slots
+    ∙ ap (λ o. is_some (cond (leb 1 j) o None)) (at_moved a z 1 r.slots (j - 1))
+    ∙ under (leb 1 j)
+  where
+    under : (b : Bool) → is_some (cond b (moved_slot a z (1 + (j - 1)) (get_or r.slots (j - 1) None)) None) ≡ is_some (cond b (get_or r.slots (j - 1) None) None)
+    under true = slot_used a z (1 + (j - 1)) (get_or r.slots (j - 1) None)
+    under false = refl
 
 positive : (z : ℤ) (v w : ℕ) → Balanced z v w → 1 ≤ v → 1 ≤ w
 positive z v zero b h =
@@ -73,11 +90,7 @@ module _ (xs : Slots) (out : Operand) (a : ℕ) (z : ℤ) (keeps : KeepsRow xs o
   read_before j (through {k = k} {a = y} r e has) = let c = came k y (get_or xs k None) refl e in through (read_before (suc k) r) c.there (subst (λ x. HasSource x j) (sym c.moved) has)
 
   used_same : (k : ℕ) → is_some (get_or ys k None) ≡ is_some (get_or xs k None)
-  used_same k = ap is_some (at_place k) ∙ moved_used (get_or xs k None)
-    where
-      moved_used : (o : Option Adder) → is_some (moved_slot a z (suc k) o) ≡ is_some o
-      moved_used None = refl
-      moved_used (Some x) = refl
+  used_same k = ap is_some (at_place k) ∙ slot_used a z (suc k) (get_or xs k None)
 
   -- the moved adder's value is bounded by what reads it
   bounded : (j : ℕ) → Reads xs out.source j → j ≡ a → value ys j ≤ 2147483647

@@ -17,10 +17,10 @@ with_place t code w = record { rows = slice_set t.rows code w }
 abbrev pub code_rules : ℕ → List Rule
 code_rules code = rule (nat_le code 15) CodeAboveFifteen ∷ []
 
--- it is live too
-abbrev pub live_rules : {X : Type 0} → Table X → ℕ → List Rule
-live_rules t code = code_rules code ++ rule (is_some (row_at t code)) CodeIdle ∷ []
+-- and live: something stands there
+abbrev pub live_rules : {A : Type 0} → ℕ → Option A → List Rule
+live_rules code o = code_rules code ++ rule (is_some o) CodeIdle ∷ []
 
 -- the row of a live code, as it is seen through what is answered, or the first cause why there is none
 abbrev pub Found : {X Y : Type 0} → Table X → ℕ → (Y → X) → Result Y Refusal → Type 0
-Found t code seen r = Answered (live_rules t code) (λ y. row_at t code ≡ Some (seen y)) r
+Found t code seen r = Answered (live_rules code (row_at t code)) (λ y. row_at t code ≡ Some (seen y)) r

@@ -81,7 +81,7 @@ impl<R: Copy> Table<R> {
 
     // Makes a live code idle, and hands its row out.
     pub fn take(&mut self, code: usize) -> Result<R, Refusal>
-        ensures { Changed (live_rules self.old code) self.old (λ r after. (row_at self.old code ≡ Some r) × (after ≡ with_place self.old code None)) result self.new }
+        ensures { Changed (live_rules code (row_at self.old code)) self.old (λ r after. (row_at self.old code ≡ Some r) × (after ≡ with_place self.old code None)) result self.new }
     {
         if code > 15 {
             return Err(Refusal::CodeAboveFifteen);

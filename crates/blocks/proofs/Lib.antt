@@ -1,0 +1,4 @@
+pub mod Placing
+pub mod Books
+pub mod Founding
+pub mod Runs

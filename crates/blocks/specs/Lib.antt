@@ -1,0 +1,5 @@
+pub mod Uses
+pub mod Blocks
+pub mod Calls
+pub mod Books
+pub mod Runs
