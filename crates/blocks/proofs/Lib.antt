@@ -2,3 +2,5 @@ pub mod Placing
 pub mod Books
 pub mod Founding
 pub mod Runs
+pub mod Same
+pub mod Examples

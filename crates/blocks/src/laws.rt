@@ -1,4 +1,5 @@
 // What holds of every block and of every call.
+ghost use Rattle.blocks.specs.Blocks.{AllThatABlockHas};
 ghost use Rattle.blocks.specs.Books.{StepsFollowBook};
 ghost use Rattle.blocks.specs.Runs.{ConstantsDecide};
 
@@ -14,4 +15,10 @@ pub fn steps_follow_the_book()
 #[tactic(auto, using(crate::proofs::Runs::constants_decide))]
 pub fn constants_decide_answers<X: Arithmetic>()
     ensures { ConstantsDecide X.means X.operations X.Product }
+{}
+
+// A block is its adder count, its width and its rows.
+#[tactic(auto, using(crate::proofs::Same::all_that_a_block_has))]
+pub fn a_block_is_what_it_has()
+    ensures { AllThatABlockHas }
 {}

@@ -17,7 +17,7 @@ use Rattle.chains.specs.Examples.{Answer, constant, fault, Case, Answers, valued
 use Rattle.chains.proofs.Keeping.{keeps_from}
 
 -- the chain of adders that break no rule
-abbrev chain : (xs : List Adder) (out : ℕ) → first_broken (chain_rules xs out) ≡ None → Chain
+abbrev pub chain : (xs : List Adder) (out : ℕ) → first_broken (chain_rules xs out) ≡ None → Chain
 chain xs out h = record { adders = xs; shift = out; few = (keeps_from xs out h).few; lawful = ap is_some h }
 
 -- the answer to a line that says the adders xs and the output shift out

@@ -89,3 +89,11 @@ impl<R: Copy> Table<R> {
         self.place_mut(code).take().ok_or(Refusal::CodeIdle)
     }
 }
+
+impl<R: Copy> Default for Table<R> {
+    ghost is_default = { λ t. t.rows ≡ replicate 16 None };
+
+    fn default() -> Self {
+        Table::new()
+    }
+}

@@ -2,7 +2,7 @@
 ghost use Rattle.std.specs.Prelude.{◌≡◌, Some};
 ghost use Rattle.adders.specs.Rules.{Answered};
 ghost use Rattle.tables.specs.Tables.{live_rules};
-ghost use Rattle.blocks.specs.Blocks.{Unfounded, row_of, SameConstants};
+ghost use Rattle.blocks.specs.Blocks.{Unfounded, row_of, constant_at, SameConstants};
 ghost use Rattle.blocks.specs.Calls.{founding, retiring, moving, Step};
 ghost use Rattle.blocks.specs.Books.{empty_book, Tells, FollowsBook};
 
@@ -46,6 +46,13 @@ impl Block {
         ensures { Answered (live_rules code (row_of self.now code)) (λ r. row_of self.now code ≡ Some r) result }
     {
         self.table.row(code)
+    }
+
+    // What a live code multiplies by.
+    pub fn constant(&self, code: usize) -> Result<u32, Refusal>
+        ensures { Answered (live_rules code (constant_at self.now code)) (λ c. constant_at self.now code ≡ Some c) result }
+    {
+        Ok(self.row(code)?.constant())
     }
 
     // Starts anew with the row of a chain at one code, whatever was there.
@@ -99,6 +106,8 @@ impl Block {
 }
 
 impl Default for Block {
+    ghost is_default = { Unfounded };
+
     fn default() -> Block {
         Block::new()
     }

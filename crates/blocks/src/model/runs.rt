@@ -1,5 +1,5 @@
 // Running a code, through the one runner.
-ghost use Rattle.std.specs.Prelude.{is_ok, Decides};
+ghost use Rattle.std.specs.Prelude.{◌≡◌, length, is_ok, Decides};
 ghost use Rattle.blocks.specs.Blocks.{Live, constant_at};
 ghost use Rattle.blocks.specs.Runs.{RunAt, RunAllAt};
 
@@ -24,7 +24,8 @@ impl Block {
         input: &[X],
         output: &mut [X],
     ) -> Result<(), Refusal>
-        ensures { RunAllAt X.means X.operations X.Product code (constant_at self.now code) input.now output.old result output.new }
+        ensures answer { RunAllAt X.means X.operations X.Product code (constant_at self.now code) input.now output.old result output.new }
+        ensures exactly { Decides (is_ok result) (Live self.now code × (length input.now ≡ length output.old)) }
     {
         let row = self.row(code)?;
         running::run_all(&row, input, output)
