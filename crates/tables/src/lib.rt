@@ -1,7 +1,7 @@
 // A table of sixteen select codes, each idle or live with a row. One row is lent to be changed; the other fifteen stay.
 #![tactic(auto)]
 
-ghost use Rattle.std.specs.Prelude.{◌≡◌, ◌<◌, replicate, Some, None, slice_index_or};
+ghost use Rattle.std.specs.Prelude.{◌≡◌, ◌<◌, ⊤, replicate, Some, None, slice_index_or};
 ghost use Rattle.std.specs.Borrow.{sem, Lends, LendsIfOk};
 ghost use Rattle.std.specs.contracts.option.Option.{the_row as option_row};
 ghost use Rattle.adders.specs.Rules.{Changed};
@@ -20,6 +20,10 @@ pub struct Table<R> {
 impl<R: Copy> Copy for Table<R> {}
 
 impl<R: Copy> Clone for Table<R> {
+    ghost is_clone = { λ t u. u ≡ t };
+
+    ghost is_infallible = { λ t. ⊤ };
+
     fn clone(&self) -> Result<Self, AllocError> {
         Ok(*self)
     }

@@ -13,8 +13,7 @@ impl Block {
         ensures answer { RunAt X.means X.operations X.Product code (constant_at self.now code) sample result }
         ensures exactly { Decides (is_ok result) (Live self.now code) }
     {
-        let row = self.row(code)?;
-        Ok(running::run(&row, sample))
+        Ok(running::run(&self.row(code)?, sample))
     }
 
     // The multiple of each sample of a buffer, at its place of the output.
@@ -27,7 +26,6 @@ impl Block {
         ensures answer { RunAllAt X.means X.operations X.Product code (constant_at self.now code) input.now output.old result output.new }
         ensures exactly { Decides (is_ok result) (Live self.now code × (length input.now ≡ length output.old)) }
     {
-        let row = self.row(code)?;
-        running::run_all(&row, input, output)
+        running::run_all(&self.row(code)?, input, output)
     }
 }
