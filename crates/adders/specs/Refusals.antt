@@ -50,3 +50,7 @@ refusal_entry (R.InputUnselected line) = entry 46 line
 -- how a refusal is printed
 abbrev pub refusal_text : Refusal → List ℕ
 refusal_text r = codes "fault=" ++ (decimal (refusal_entry r).number ++ (codes "\nplace=" ++ decimal (refusal_entry r).place))
+
+-- the same with the line of an input
+abbrev pub line_refusal_text : Refusal → ℕ → List ℕ
+line_refusal_text r line = codes "fault=" ++ (decimal (refusal_entry r).number ++ (codes "\nline=" ++ (decimal line ++ (codes "\nplace=" ++ decimal (refusal_entry r).place))))

@@ -7,7 +7,7 @@ mod values;
 mod wiring;
 
 pub use list::AdderList;
-pub use refusals::{Refusal, RowFault};
+pub use refusals::{LineRefusal, Refusal, RowFault};
 pub use values::{
     output_value, rules_say_what_adders_keep, slot_values, values_follow_their_adders,
 };

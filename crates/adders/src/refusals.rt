@@ -1,6 +1,6 @@
 // Why a call is turned down: one type for the whole generator. Each case has a number and a place.
 ghost use Rattle.std.specs.Prelude.{◌≡◌, Some};
-ghost use Rattle.adders.specs.Refusals.{refusal_entry, fault_entry, refusal_text};
+ghost use Rattle.adders.specs.Refusals.{refusal_entry, fault_entry, refusal_text, line_refusal_text};
 ghost use Rattle.adders.specs.declared.refusals.Refusal.TheVariants.{BrokenForm};
 
 use forms::FormError;
@@ -150,6 +150,16 @@ impl Refusal {
             _ => 0,
         }
     }
+
+    // The same, with the line of an input where it was met.
+    pub fn at_line(self, line: usize) -> LineRefusal
+        ensures { (result.refusal ≡ self) × (result.line ≡ line) }
+    {
+        LineRefusal {
+            refusal: self,
+            line,
+        }
+    }
 }
 
 impl From<FormError> for Refusal {
@@ -170,3 +180,22 @@ impl fmt::Display for Refusal {
 }
 
 impl Error for Refusal {}
+
+// A refusal, with the line of an input where it was met, from 1.
+#[derive(Clone, Copy)]
+pub struct LineRefusal {
+    pub refusal: Refusal,
+    pub line: usize,
+}
+
+// Three lines, without a line feed at the end.
+impl fmt::Display for LineRefusal {
+    ghost output = { λ r. Some (line_refusal_text r.refusal r.line) };
+
+    fn fmt<W: fmt::Write>(&self, f: &mut fmt::Formatter<W>) -> fmt::Result {
+        let fault = self.refusal.number();
+        let line = self.line;
+        let place = self.refusal.place();
+        write!(f, "fault={fault}\nline={line}\nplace={place}")
+    }
+}

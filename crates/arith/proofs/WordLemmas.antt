@@ -8,7 +8,7 @@ use Rattle.std.proofs.lemmas.Nat.{pow-add}
 use Rattle.std.proofs.lemmas.Int.{ints, to_z-of_z}
 use Rattle.arith.specs.Operations.{doubled}
 use Rattle.arith.specs.Remainders.{remainder}
-use Rattle.arith.specs.Words.{bits_positive, word_bits, word_meaning, words}
+use Rattle.arith.specs.Words.{bits_positive, word_bits, word_meaning, words, OneWordProduct}
 use Rattle.arith.specs.Moduli.{same_below, doubled_number}
 use Rattle.arith.specs.Integers.{bits_again}
 
@@ -48,3 +48,10 @@ word_neutral = same_below _ _ refl
 
 -- what the methods of words cite
 pub ruleset words_compute = (word_neutral, stored, bits_of_word, shifted_word, to_z-of_z)
+
+-- two products of one number and one word differ by a multiple of 2^64, and both are words
+pub one_product : OneWordProduct
+one_product n x r s p q =
+    let a = p.held in
+    let b = q.held in
+    omega (arith, ints, p.congruent, q.congruent)

@@ -6,7 +6,6 @@ ghost use Rattle.blocks.specs.Runs.{ConstantsDecide};
 use arith::Arithmetic;
 
 // Whatever keeps to the rules of a call keeps to the plain book too.
-#[tactic(auto, using(crate::proofs::Books::steps_follow_book))]
 pub fn steps_follow_the_book()
     ensures { StepsFollowBook }
 {}

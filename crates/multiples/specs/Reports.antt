@@ -2,7 +2,6 @@
 --   MultiplesOf c x  c times x: as a word, by 255, and by 257
 use Rattle.std.specs.Prelude.{◌≡◌, ℕ, ◌*◌, ◌%◌, List, ◌++◌, ℤ, codes, decimal}
 use Rattle.std.specs.Fmt.{signed_decimal}
-use Rattle.adders.specs.Refusals.{Entry}
 use Rattle.arith.specs.Remainders.{reduced_by}
 use Rattle.arith.specs.Words.{WordProduct}
 use Rattle.multiples.specs.declared.report.Multiples.{Multiples}
@@ -19,6 +18,3 @@ abbrev pub multiples_bytes : Multiples → Multiples → List ℕ
 multiples_bytes m f =
     codes "word=" ++ (signed_decimal m.word ++ (codes "\nmod255=" ++ (decimal m.mod255 ++ (codes "\nmod257=" ++ (decimal m.mod257
     ++ (codes "\nframe=" ++ (signed_decimal f.word ++ (codes " " ++ (decimal f.mod255 ++ (codes " " ++ decimal f.mod257))))))))))
-
-abbrev pub fault_bytes : Entry → ℕ → List ℕ
-fault_bytes e line = codes "fault=" ++ (decimal e.number ++ (codes "\nline=" ++ (decimal line ++ (codes "\nplace=" ++ decimal e.place))))

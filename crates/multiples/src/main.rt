@@ -6,7 +6,7 @@ mod report;
 use adders::Refusal;
 use chains::Chain;
 use integers::read_integer;
-use report::{FaultReport, SampleReport};
+use report::SampleReport;
 use rows::Row;
 use std::io;
 use std::io::{BufRead, BufReader};
@@ -21,17 +21,14 @@ fn main(rt: HostRuntime) -> io::Result<()> {
     };
     let chain = match chain {
         Ok(chain) => chain,
-        Err(refusal) => return rt.println(FaultReport { refusal, line: 1 }),
+        Err(refusal) => return rt.println(refusal.at_line(1)),
     };
     println!(rt; "constant={}", chain.constant())?;
     let row = Row::from(chain);
     for (line, number) in lines.zip(2..) {
         match read_integer(line?.as_slice()) {
             Ok(sample) => rt.println(SampleReport::new(&row, sample))?,
-            Err(error) => rt.println(FaultReport {
-                refusal: Refusal::from(error),
-                line: number,
-            })?,
+            Err(error) => rt.println(Refusal::from(error).at_line(number))?,
         }
     }
     Ok(())

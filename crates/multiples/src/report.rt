@@ -1,10 +1,8 @@
 // The multiples of a sample, and what is printed for it.
 ghost use Rattle.std.specs.Prelude.{Some};
-ghost use Rattle.adders.specs.Refusals.{refusal_entry};
 ghost use Rattle.rows.specs.Rows.{constant_of};
-ghost use Rattle.multiples.specs.Reports.{MultiplesOf, multiples_bytes, fault_bytes};
+ghost use Rattle.multiples.specs.Reports.{MultiplesOf, multiples_bytes};
 
-use adders::Refusal;
 use arith::{Frame, Mod255, Mod257, Residue, Word};
 use rows::Row;
 use running::run;
@@ -78,23 +76,5 @@ impl fmt::Display for SampleReport {
             "word={}\nmod255={}\nmod257={}\nframe={} {} {}",
             apart.word, apart.mod255, apart.mod257, framed.word, framed.mod255, framed.mod257,
         )
-    }
-}
-
-// A refusal, with the line of the input where it was met.
-#[derive(Clone, Copy)]
-pub struct FaultReport {
-    pub refusal: Refusal,
-    pub line: usize,
-}
-
-impl fmt::Display for FaultReport {
-    ghost output = { λ r. Some (fault_bytes (refusal_entry r.refusal) r.line) };
-
-    fn fmt<W: fmt::Write>(&self, f: &mut fmt::Formatter<W>) -> fmt::Result {
-        let fault = self.refusal.number();
-        let line = self.line;
-        let place = self.refusal.place();
-        write!(f, "fault={fault}\nline={line}\nplace={place}")
     }
 }
