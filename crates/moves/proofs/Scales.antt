@@ -14,7 +14,7 @@ use Rattle.adders.specs.Values.{Slots, combined, slot_value, sample, value}
 use Rattle.adders.specs.Rules.{first_broken, Sound}
 use Rattle.adders.proofs.Broken.{some_none, whole_parts}
 use Rattle.adders.proofs.Follow.{follow, value_at, within}
-use Rattle.moves.specs.Moves.{rise, new_shift, operand_moves, slot_moves, moves_from, moved_operand, moved_adder, moved_slot, moved_from}
+use Rattle.moves.specs.Moves.{rise, new_shift, operand_shift_rules, slot_shift_rules, shift_rules_from, moved_operand, moved_adder, moved_slot, moved_from}
 use Rattle.moves.specs.Scaling.{Scaled, MovingScales}
 
 -- an amount as how far up and how far down, of which one is 0
@@ -96,20 +96,20 @@ module _ (a : ℕ) (z : ℤ) where
   at_moved j (x ∷ xs) zero = ap (λ n. moved_slot a z n x) (let p : j ≡ j + 0 = omega arith in p)
   at_moved j (x ∷ xs) (suc k) = at_moved (j + 1) xs k ∙ ap (λ n. moved_slot a z n (get_or xs k None)) (let p : j + 1 + k ≡ j + suc k = omega arith in p)
 
-  pub rules_at : (j : ℕ) (xs : Slots) → first_broken (moves_from a z j xs) ≡ None → (k : ℕ) → k < length xs → first_broken (slot_moves a z (j + k) (get_or xs k None)) ≡ None
+  pub rules_at : (j : ℕ) (xs : Slots) → first_broken (shift_rules_from a z j xs) ≡ None → (k : ℕ) → k < length xs → first_broken (slot_shift_rules a z (j + k) (get_or xs k None)) ≡ None
   rules_at j [] e k h = absurd (omega arith)
   rules_at j (x ∷ xs) e zero h =
-      subst (λ n. first_broken (slot_moves a z n x) ≡ None) (let p : j ≡ j + 0 = omega arith in p) (whole_parts (slot_moves a z j x) (moves_from a z (j + 1) xs) e).0
+      subst (λ n. first_broken (slot_shift_rules a z n x) ≡ None) (let p : j ≡ j + 0 = omega arith in p) (whole_parts (slot_shift_rules a z j x) (shift_rules_from a z (j + 1) xs) e).0
   rules_at j (x ∷ xs) e (suc k) h =
-      subst (λ n. first_broken (slot_moves a z n (get_or xs k None)) ≡ None) (let p : j + 1 + k ≡ j + suc k = omega arith in p)
-      (rules_at (j + 1) xs (whole_parts (slot_moves a z j x) (moves_from a z (j + 1) xs) e).1 k (omega arith))
+      subst (λ n. first_broken (slot_shift_rules a z n (get_or xs k None)) ≡ None) (let p : j + 1 + k ≡ j + suc k = omega arith in p)
+      (rules_at (j + 1) xs (whole_parts (slot_shift_rules a z j x) (shift_rules_from a z (j + 1) xs) e).1 k (omega arith))
 
   -- an operand whose shift stays in its range
   pub record Fits (j : ℕ) (o : Operand) : Type 0 where
     pub low : int_le (pos 0) (new_shift a z j o) ≡ true
     pub high : (moved_operand a z j o).shift ≤ 30
 
-  pub fits : (j : ℕ) (o : Operand) → first_broken (operand_moves a z j o) ≡ None → Fits j o
+  pub fits : (j : ℕ) (o : Operand) → first_broken (operand_shift_rules a z j o) ≡ None → Fits j o
   fits j o e =
       let t = new_shift a z j o in
       let both = both_hold (int_le (pos 0) t) (int_le t (pos 30)) _ e in
@@ -119,7 +119,7 @@ module _ (a : ℕ) (z : ℤ) where
   pub operand_moved : (j : ℕ) (o : Operand) (v w : ℕ) → Fits j o → Balanced (rise a z o.source) v w → Balanced (rise a z j) (v * 2 ^ o.shift) (w * 2 ^ (moved_operand a z j o).shift)
   operand_moved j o v w f b = operand_balanced v w o.shift (moved_operand a z j o).shift (rise a z j) (rise a z o.source) (shift_balanced o.shift (rise a z j) (rise a z o.source) f.low) b
 
-  module _ (xs : Slots) (sound : Sound xs) (one : 1 ≤ a) (whole : first_broken (moves_from a z 1 xs) ≡ None) where
+  module _ (xs : Slots) (sound : Sound xs) (one : 1 ≤ a) (whole : first_broken (shift_rules_from a z 1 xs) ≡ None) where
     abbrev ys : Slots
     ys = moved_from a z 1 xs
 
@@ -129,8 +129,8 @@ module _ (a : ℕ) (z : ℤ) where
     pub adder_fits : (k : ℕ) (x : Adder) → get_or xs k None ≡ Some x → Fits (suc k) x.left × Fits (suc k) x.right
     adder_fits k x e =
         let h = within xs k x e in
-        let rules = subst (λ o. first_broken (slot_moves a z (suc k) o) ≡ None) e (subst (λ n. first_broken (slot_moves a z n (get_or xs k None)) ≡ None) (let p : 1 + k ≡ suc k = omega arith in p) (rules_at 1 xs whole k h)) in
-        let parts = whole_parts (operand_moves a z (suc k) x.left) (operand_moves a z (suc k) x.right) rules in
+        let rules = subst (λ o. first_broken (slot_shift_rules a z (suc k) o) ≡ None) e (subst (λ n. first_broken (slot_shift_rules a z n (get_or xs k None)) ≡ None) (let p : 1 + k ≡ suc k = omega arith in p) (rules_at 1 xs whole k h)) in
+        let parts = whole_parts (operand_shift_rules a z (suc k) x.left) (operand_shift_rules a z (suc k) x.right) rules in
         (fits (suc k) x.left parts.0, fits (suc k) x.right parts.1)
 
     AllTo : ℕ → Type 0

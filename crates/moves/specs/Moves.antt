@@ -22,32 +22,32 @@ abbrev pub new_shift : ℕ → ℤ → ℕ → Operand → ℤ
 new_shift a z j o = (pos o.shift +ℤ rise a z j) -ℤ rise a z o.source
 
 -- it has to stay from 0 to 30; a breach is told at the reader
-abbrev pub operand_moves : ℕ → ℤ → ℕ → Operand → List Rule
-operand_moves a z j o = rule (int_le (pos 0) (new_shift a z j o) && int_le (new_shift a z j o) (pos 30)) (ShiftOutOfRange j) ∷ []
+abbrev pub operand_shift_rules : ℕ → ℤ → ℕ → Operand → List Rule
+operand_shift_rules a z j o = rule (int_le (pos 0) (new_shift a z j o) && int_le (new_shift a z j o) (pos 30)) (ShiftOutOfRange j) ∷ []
 
 abbrev pub moved_operand : ℕ → ℤ → ℕ → Operand → Operand
 moved_operand a z j o = record { source = o.source; shift = nat_abs (new_shift a z j o) }
 
 -- adder j
-abbrev pub adder_moves : ℕ → ℤ → ℕ → Adder → List Rule
-adder_moves a z j x = operand_moves a z j x.left ++ operand_moves a z j x.right
+abbrev pub adder_shift_rules : ℕ → ℤ → ℕ → Adder → List Rule
+adder_shift_rules a z j x = operand_shift_rules a z j x.left ++ operand_shift_rules a z j x.right
 
 abbrev pub moved_adder : ℕ → ℤ → ℕ → Adder → Adder
 moved_adder a z j x = record { left = moved_operand a z j x.left; sign = x.sign; right = moved_operand a z j x.right }
 
 -- the slot of adder j
-abbrev pub slot_moves : ℕ → ℤ → ℕ → Option Adder → List Rule
-slot_moves a z j None = []
-slot_moves a z j (Some x) = adder_moves a z j x
+abbrev pub slot_shift_rules : ℕ → ℤ → ℕ → Option Adder → List Rule
+slot_shift_rules a z j None = []
+slot_shift_rules a z j (Some x) = adder_shift_rules a z j x
 
 abbrev pub moved_slot : ℕ → ℤ → ℕ → Option Adder → Option Adder
 moved_slot a z j None = None
 moved_slot a z j (Some x) = Some (moved_adder a z j x)
 
 -- the slots from adder j on
-abbrev pub moves_from : ℕ → ℤ → ℕ → Slots → List Rule
-moves_from a z j [] = []
-moves_from a z j (x ∷ xs) = slot_moves a z j x ++ moves_from a z (j + 1) xs
+abbrev pub shift_rules_from : ℕ → ℤ → ℕ → Slots → List Rule
+shift_rules_from a z j [] = []
+shift_rules_from a z j (x ∷ xs) = slot_shift_rules a z j x ++ shift_rules_from a z (j + 1) xs
 
 abbrev pub moved_from : ℕ → ℤ → ℕ → Slots → Slots
 moved_from a z j [] = []

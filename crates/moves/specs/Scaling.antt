@@ -4,7 +4,7 @@
 use Rattle.std.specs.Prelude.{◌≡◌, ℕ, suc, ◌*◌, ◌^◌, ◌≤◌, ℤ, pos, negsuc, None, length, ◌≢◌}
 use Rattle.adders.specs.Values.{Slots, value}
 use Rattle.adders.specs.Rules.{first_broken, Sound}
-use Rattle.moves.specs.Moves.{moves_from, moved_from}
+use Rattle.moves.specs.Moves.{shift_rules_from, moved_from}
 
 -- w is v times 2 ^ z
 abbrev pub Scaled : ℤ → ℕ → ℕ → Type 0
@@ -18,4 +18,4 @@ pub record ValuesMove (a : ℕ) (z : ℤ) (xs ys : Slots) : Type 0 where
 
 -- so it is wherever no shift leaves its range
 abbrev pub MovingScales : Type 0
-MovingScales = (a : ℕ) (z : ℤ) (xs : Slots) → 1 ≤ a → Sound xs → first_broken (moves_from a z 1 xs) ≡ None → ValuesMove a z xs (moved_from a z 1 xs)
+MovingScales = (a : ℕ) (z : ℤ) (xs : Slots) → 1 ≤ a → Sound xs → first_broken (shift_rules_from a z 1 xs) ≡ None → ValuesMove a z xs (moved_from a z 1 xs)

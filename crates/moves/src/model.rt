@@ -1,7 +1,7 @@
 // A move, and what it makes of operands, adders and slots.
 ghost use Rattle.std.specs.Prelude.{◌≡◌, ◌≤ℤ◌, [], ◌∷◌, pos, negsuc};
 ghost use Rattle.adders.specs.Rules.{Answered, Tried};
-ghost use Rattle.moves.specs.Moves.{amount_rules, rise, new_shift, operand_moves, adder_moves, slot_moves, moves_from, moved_operand, moved_adder, moved_slot, moved_from};
+ghost use Rattle.moves.specs.Moves.{amount_rules, rise, new_shift, operand_shift_rules, adder_shift_rules, slot_shift_rules, shift_rules_from, moved_operand, moved_adder, moved_slot, moved_from};
 
 use adders::{Adder, Operand, Refusal};
 
@@ -54,7 +54,7 @@ impl ShiftMove {
 
     // The operand that a reader has afterwards, or the refusal of its shift; the output is the reader 0.
     pub fn moved_operand(self, operand: Operand, reader: usize) -> Result<Operand, Refusal>
-        ensures { Tried (operand_moves self.adder self.amount reader operand) (moved_operand self.adder self.amount reader operand) result }
+        ensures { Tried (operand_shift_rules self.adder self.amount reader operand) (moved_operand self.adder self.amount reader operand) result }
     {
         let shift = self.new_shift(operand, reader);
         if !(0..=MOST_SHIFT).contains(&shift) {
@@ -68,7 +68,7 @@ impl ShiftMove {
 
     // The adder with this number afterwards, or the refusal of its first shift that leaves its range.
     pub fn moved_adder(self, adder: Adder, number: usize) -> Result<Adder, Refusal>
-        ensures { Tried (adder_moves self.adder self.amount number adder) (moved_adder self.adder self.amount number adder) result }
+        ensures { Tried (adder_shift_rules self.adder self.amount number adder) (moved_adder self.adder self.amount number adder) result }
     {
         Ok(Adder {
             left: self.moved_operand(adder.left, number)?,
@@ -79,7 +79,7 @@ impl ShiftMove {
 
     // The same of an adder that may be absent.
     fn moved_slot(self, slot: Option<Adder>, number: usize) -> Result<Option<Adder>, Refusal>
-        ensures { Tried (slot_moves self.adder self.amount number slot) (moved_slot self.adder self.amount number slot) result }
+        ensures { Tried (slot_shift_rules self.adder self.amount number slot) (moved_slot self.adder self.amount number slot) result }
     {
         let Some(adder) = slot else {
             return Ok(None);
@@ -89,7 +89,7 @@ impl ShiftMove {
 
     // All adders of a row afterwards, or the refusal of the first shift that leaves its range.
     pub fn moved_slots(self, slots: [Option<Adder>; 8]) -> Result<[Option<Adder>; 8], Refusal>
-        ensures { Tried (moves_from self.adder self.amount 1 slots) (moved_from self.adder self.amount 1 slots) result }
+        ensures { Tried (shift_rules_from self.adder self.amount 1 slots) (moved_from self.adder self.amount 1 slots) result }
     {
         let mut moved = slots;
         for (i, slot) in slots.iter().enumerate() {

@@ -10,12 +10,12 @@ use Rattle.adders.specs.Values.{Slots, operand_value, adder_value, combined, val
 use Rattle.adders.specs.Rules.{Rule, rule, first_broken, in_range, InRange, operand_rules, adder_rules}
 use Rattle.adders.proofs.Broken.{some_none, broken_first, broken_rest, whole_parts}
 use Rattle.adders.proofs.Follow.{follow, within, length_values}
-use Rattle.moves.specs.Moves.{amount_rules, operand_moves, slot_moves, moves_from, moved_operand, moved_adder, moved_slot, moved_from}
+use Rattle.moves.specs.Moves.{amount_rules, operand_shift_rules, slot_shift_rules, shift_rules_from, moved_operand, moved_adder, moved_slot, moved_from}
 use Rattle.moves.proofs.Scales.{Fits, adder_fits, at_moved, length_moved}
 use Rattle.rows.specs.declared.model.Row.{Row}
 use Rattle.rows.specs.Rules.{row_constant, row_rules, KeepsRow}
 use Rattle.rows.specs.Rows.{adder_at, constant_of}
-use Rattle.rows.specs.Moving.{value_after, range_rules, moving_rules, move_rules, MovedRow}
+use Rattle.rows.specs.Moving.{value_after, range_rules, limit_rules, move_rules, MovedRow}
 use Rattle.rows.proofs.Moving.{stays, constant_stays, moved_range, keeps_moved}
 use Rattle.rows.proofs.Answering.{row_keeps, there}
 use Rattle.rows.proofs.Keeping.{rules_from_keeps}
@@ -26,31 +26,31 @@ module _ (r : Row) (a : ℕ) (z : ℤ) (x : Adder) (used : adder_at r a ≡ Some
   ranges = range_rules r.slots a z (adder_at r a)
 
   abbrev from_output : List Rule
-  from_output = operand_moves a z 0 r.output ++ ranges
+  from_output = operand_shift_rules a z 0 r.output ++ ranges
 
   abbrev from_readers : List Rule
-  from_readers = moves_from a z 1 r.slots ++ from_output
+  from_readers = shift_rules_from a z 1 r.slots ++ from_output
 
-  pub by_own : (e : Refusal) → first_broken (slot_moves a z a (Some x)) ≡ Some e → first_broken (moving_rules r a z) ≡ Some e
-  by_own e h = broken_first (slot_moves a z a (adder_at r a)) from_readers e (subst (λ o. first_broken (slot_moves a z a o) ≡ Some e) (sym used) h)
+  pub by_own : (e : Refusal) → first_broken (slot_shift_rules a z a (Some x)) ≡ Some e → first_broken (limit_rules r a z) ≡ Some e
+  by_own e h = broken_first (slot_shift_rules a z a (adder_at r a)) from_readers e (subst (λ o. first_broken (slot_shift_rules a z a o) ≡ Some e) (sym used) h)
 
   -- the number of the adder, as the code has it
-  module _ (n : ℕ) (is : n ≡ a) (own : first_broken (slot_moves a z n (Some x)) ≡ None) where
-    past_own : first_broken (moving_rules r a z) ≡ first_broken from_readers
-    past_own = broken_rest (slot_moves a z a (adder_at r a)) from_readers (subst (λ o. first_broken (slot_moves a z a o) ≡ None) (sym used) (subst (λ i. first_broken (slot_moves a z i (Some x)) ≡ None) is own))
+  module _ (n : ℕ) (is : n ≡ a) (own : first_broken (slot_shift_rules a z n (Some x)) ≡ None) where
+    past_own : first_broken (limit_rules r a z) ≡ first_broken from_readers
+    past_own = broken_rest (slot_shift_rules a z a (adder_at r a)) from_readers (subst (λ o. first_broken (slot_shift_rules a z a o) ≡ None) (sym used) (subst (λ i. first_broken (slot_shift_rules a z i (Some x)) ≡ None) is own))
 
-    pub by_reader : (e : Refusal) → first_broken (moves_from a z 1 r.slots) ≡ Some e → first_broken (moving_rules r a z) ≡ Some e
-    by_reader e h = past_own ∙ broken_first (moves_from a z 1 r.slots) from_output e h
+    pub by_reader : (e : Refusal) → first_broken (shift_rules_from a z 1 r.slots) ≡ Some e → first_broken (limit_rules r a z) ≡ Some e
+    by_reader e h = past_own ∙ broken_first (shift_rules_from a z 1 r.slots) from_output e h
 
-    module _ (whole : first_broken (moves_from a z 1 r.slots) ≡ None) where
-      past_readers : first_broken (moving_rules r a z) ≡ first_broken from_output
-      past_readers = past_own ∙ broken_rest (moves_from a z 1 r.slots) from_output whole
+    module _ (whole : first_broken (shift_rules_from a z 1 r.slots) ≡ None) where
+      past_readers : first_broken (limit_rules r a z) ≡ first_broken from_output
+      past_readers = past_own ∙ broken_rest (shift_rules_from a z 1 r.slots) from_output whole
 
-      pub by_output : (e : Refusal) → first_broken (operand_moves a z 0 r.output) ≡ Some e → first_broken (moving_rules r a z) ≡ Some e
-      by_output e h = past_readers ∙ broken_first (operand_moves a z 0 r.output) ranges e h
+      pub by_output : (e : Refusal) → first_broken (operand_shift_rules a z 0 r.output) ≡ Some e → first_broken (limit_rules r a z) ≡ Some e
+      by_output e h = past_readers ∙ broken_first (operand_shift_rules a z 0 r.output) ranges e h
 
-      pub by_range : first_broken (operand_moves a z 0 r.output) ≡ None → first_broken (moving_rules r a z) ≡ first_broken (range_rules r.slots a z (Some x))
-      by_range last = past_readers ∙ broken_rest (operand_moves a z 0 r.output) ranges last ∙ ap (λ o. first_broken (range_rules r.slots a z o)) used
+      pub by_range : first_broken (operand_shift_rules a z 0 r.output) ≡ None → first_broken (limit_rules r a z) ≡ first_broken (range_rules r.slots a z (Some x))
+      by_range last = past_readers ∙ broken_rest (operand_shift_rules a z 0 r.output) ranges last ∙ ap (λ o. first_broken (range_rules r.slots a z o)) used
 
 in_range_from : (v : ℕ) → InRange v → in_range v ≡ true
 in_range_from v h = grind (arith, nat_tests)
@@ -60,7 +60,7 @@ and_true true = refl
 and_true false = refl
 
 -- The moved adder's rules, over the values before the move of the sources below it.
-module _ (xs : Slots) (out : Operand) (a : ℕ) (z : ℤ) (keeps : KeepsRow xs out) (one : 1 ≤ a) (whole : first_broken (moves_from a z 1 xs) ≡ None) (last : first_broken (operand_moves a z 0 out) ≡ None) (p : ℕ) (suc_p : suc p ≡ a) (x : Adder) (there : get_or xs p None ≡ Some x) where
+module _ (xs : Slots) (out : Operand) (a : ℕ) (z : ℤ) (keeps : KeepsRow xs out) (one : 1 ≤ a) (whole : first_broken (shift_rules_from a z 1 xs) ≡ None) (last : first_broken (operand_shift_rules a z 0 out) ≡ None) (p : ℕ) (suc_p : suc p ≡ a) (x : Adder) (there : get_or xs p None ≡ Some x) where
   abbrev vs : List ℕ
   vs = take a (values_from sample xs)
 
@@ -102,19 +102,19 @@ module _ (xs : Slots) (out : Operand) (a : ℕ) (z : ℤ) (keeps : KeepsRow xs o
       broken_rest (operand_rules vs y.left) (operand_rules vs y.right ++ own_range) (wired (moved_operand a z a x.left) (omega (arith, s.left.lower)) f.0.high)
       ∙ broken_rest (operand_rules vs y.right) own_range (wired (moved_operand a z a x.right) (omega (arith, s.right.lower)) f.1.high)
       ∙ (λ i. cond (in_range (l i * 2 ^ (moved_operand a z a x.left).shift) && (in_range (m i * 2 ^ (moved_operand a z a x.right).shift) && in_range (adder_value vs (moved_adder a z a x)))) None (Some (ValueOutOfRange (n i))))
-      ∙ ap (λ b. cond (in_range (value_after xs a z a x.left) && (in_range (value_after xs a z a x.right) && b)) None (Some (ValueOutOfRange a))) (in_range_from (adder_value vs (moved_adder a z a x)) kept)
-      ∙ ap (λ b. cond (in_range (value_after xs a z a x.left) && b) None (Some (ValueOutOfRange a))) (and_true (in_range (value_after xs a z a x.right)))
+      ∙ ap (λ b. cond (in_range (value_after xs a z x.left) && (in_range (value_after xs a z x.right) && b)) None (Some (ValueOutOfRange a))) (in_range_from (adder_value vs (moved_adder a z a x)) kept)
+      ∙ ap (λ b. cond (in_range (value_after xs a z x.left) && b) None (Some (ValueOutOfRange a))) (and_true (in_range (value_after xs a z x.right)))
     where
       wired : (o : Operand) → o.source < length vs → o.shift ≤ 30 → first_broken (operand_rules vs o) ≡ None
       wired o p q = grind (arith, nat_tests)
 
 -- A row and an adder that it uses, where every shift stays in its range.
-module _ (r : Row) (a : ℕ) (z : ℤ) (x : Adder) (used : adder_at r a ≡ Some x) (n : ℕ) (is : n ≡ a) (own : first_broken (slot_moves a z n (Some x)) ≡ None) (whole : first_broken (moves_from a z 1 r.slots) ≡ None) (last : first_broken (operand_moves a z 0 r.output) ≡ None) where
+module _ (r : Row) (a : ℕ) (z : ℤ) (x : Adder) (used : adder_at r a ≡ Some x) (n : ℕ) (is : n ≡ a) (own : first_broken (slot_shift_rules a z n (Some x)) ≡ None) (whole : first_broken (shift_rules_from a z 1 r.slots) ≡ None) (last : first_broken (operand_shift_rules a z 0 r.output) ≡ None) where
   up_one : suc (a - 1) ≡ a
   up_one = let low = (there r a x used).low in omega arith
 
   -- what is left to be tested is the moved adder by the rules of an adder
-  pub by_adder : (ws : List ℕ) (y : Adder) → ws ≡ values_from sample r.slots → y ≡ moved_adder a z n x → first_broken (moving_rules r a z) ≡ first_broken (adder_rules (take n ws) y)
+  pub by_adder : (ws : List ℕ) (y : Adder) → ws ≡ values_from sample r.slots → y ≡ moved_adder a z n x → first_broken (limit_rules r a z) ≡ first_broken (adder_rules (take n ws) y)
   by_adder ws y values moved =
       let t = there r a x used in
       by_range r a z x used n is own whole last
@@ -122,7 +122,7 @@ module _ (r : Row) (a : ℕ) (z : ℤ) (x : Adder) (used : adder_at r a ≡ Some
       ∙ (λ i. first_broken (adder_rules (take (sym is i) (sym values i)) (sym (moved ∙ ap (λ j. moved_adder a z j x) is) i)))
 
   -- where it keeps them, the row keeps its rules
-  module _ (h : first_broken (moving_rules r a z) ≡ None) (slots : Slots) (output : Operand) (moved : slots ≡ moved_from a z 1 r.slots) (moved_out : output ≡ moved_operand a z 0 r.output) where
+  module _ (h : first_broken (limit_rules r a z) ≡ None) (slots : Slots) (output : Operand) (moved : slots ≡ moved_from a z 1 r.slots) (moved_out : output ≡ moved_operand a z 0 r.output) where
     keeps_after : KeepsRow slots output
     keeps_after =
         let t = there r a x used in
@@ -136,20 +136,20 @@ module _ (r : Row) (a : ℕ) (z : ℤ) (x : Adder) (used : adder_at r a ≡ Some
     lawful_after = ap is_some (rules_from_keeps slots output keeps_after)
 
 -- What an accepted move leaves has the constant that was there.
-pub constant_kept : (r after : Row) (a : ℕ) (z : ℤ) (x : Adder) → adder_at r a ≡ Some x → first_broken (moving_rules r a z) ≡ None → MovedRow r a z after → constant_of after ≡ constant_of r
+pub constant_kept : (r after : Row) (a : ℕ) (z : ℤ) (x : Adder) → adder_at r a ≡ Some x → first_broken (limit_rules r a z) ≡ None → MovedRow r a z after → constant_of after ≡ constant_of r
 constant_kept r after a z x used h moved =
     let ranges = range_rules r.slots a z (adder_at r a) in
-    let outputs = operand_moves a z 0 r.output in
-    let readers = moves_from a z 1 r.slots in
-    let rest = whole_parts readers (outputs ++ ranges) (whole_parts (slot_moves a z a (adder_at r a)) (readers ++ (outputs ++ ranges)) h).1 in
+    let outputs = operand_shift_rules a z 0 r.output in
+    let readers = shift_rules_from a z 1 r.slots in
+    let rest = whole_parts readers (outputs ++ ranges) (whole_parts (slot_shift_rules a z a (adder_at r a)) (readers ++ (outputs ++ ranges)) h).1 in
     (λ i. row_constant (moved.slots i) (moved.output i))
     ∙ constant_stays r.slots r.output a z (row_keeps r) (there r a x used).low rest.0 (whole_parts outputs ranges rest.1).0
 
-used_then : (r : Row) (a : ℕ) (z : ℤ) (o : Option Adder) → cond (is_some o) (first_broken (amount_rules z ++ moving_rules r a z)) (Some AdderUnused) ≡ None → (x : Adder) × (o ≡ Some x) × (first_broken (amount_rules z ++ moving_rules r a z) ≡ None)
+used_then : (r : Row) (a : ℕ) (z : ℤ) (o : Option Adder) → cond (is_some o) (first_broken (amount_rules z ++ limit_rules r a z)) (Some AdderUnused) ≡ None → (x : Adder) × (o ≡ Some x) × (first_broken (amount_rules z ++ limit_rules r a z) ≡ None)
 used_then r a z None e = absurd (some_none e)
 used_then r a z (Some x) e = (x, refl, e)
 
 pub move_keeps_constant : (r after : Row) (a : ℕ) (z : ℤ) → first_broken (move_rules r a z) ≡ None → MovedRow r a z after → constant_of after ≡ constant_of r
 move_keeps_constant r after a z h moved =
     let u = used_then r a z (adder_at r a) h in
-    constant_kept r after a z u.0 u.1 (whole_parts (amount_rules z) (moving_rules r a z) u.2).1 moved
+    constant_kept r after a z u.0 u.1 (whole_parts (amount_rules z) (limit_rules r a z) u.2).1 moved

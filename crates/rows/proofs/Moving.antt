@@ -10,7 +10,7 @@ use Rattle.adders.specs.Values.{Slots, value}
 use Rattle.adders.specs.Rules.{first_broken, InRange, SoundOperand, SoundAdder, Sound}
 use Rattle.adders.proofs.Broken.{some_none}
 use Rattle.adders.proofs.Follow.{within}
-use Rattle.moves.specs.Moves.{rise, operand_moves, moves_from, moved_operand, moved_adder, moved_slot, moved_from}
+use Rattle.moves.specs.Moves.{rise, operand_shift_rules, shift_rules_from, moved_operand, moved_adder, moved_slot, moved_from}
 use Rattle.moves.proofs.Scales.{up, down, Balanced, Fits, fits, operand_moved, at_moved, length_moved, adder_fits, balanced, moving_scales}
 use Rattle.rows.specs.declared.model.Row.{Row}
 use Rattle.rows.specs.Rows.{adder_at}
@@ -48,7 +48,7 @@ below_shifted v s m h =
     let e = mul-one v in
     omega arith
 
-module _ (xs : Slots) (out : Operand) (a : ℕ) (z : ℤ) (keeps : KeepsRow xs out) (one : 1 ≤ a) (whole : first_broken (moves_from a z 1 xs) ≡ None) (last : first_broken (operand_moves a z 0 out) ≡ None) where
+module _ (xs : Slots) (out : Operand) (a : ℕ) (z : ℤ) (keeps : KeepsRow xs out) (one : 1 ≤ a) (whole : first_broken (shift_rules_from a z 1 xs) ≡ None) (last : first_broken (operand_shift_rules a z 0 out) ≡ None) where
   abbrev ys : Slots
   ys = moved_from a z 1 xs
 
@@ -123,13 +123,13 @@ module _ (xs : Slots) (out : Operand) (a : ℕ) (z : ℤ) (keeps : KeepsRow xs o
 
     -- its operands too, where they are tested
     module _ (ranges : first_broken (range_rules xs a z (Some x)) ≡ None) where
-      left_range : InRange (value_after xs a z a x.left)
+      left_range : InRange (value_after xs a z x.left)
       left_range = grind (arith, nat_tests)
 
-      right_range : InRange (value_after xs a z a x.right)
+      right_range : InRange (value_after xs a z x.right)
       right_range = grind (arith, nat_tests)
 
-      operand_sound : (k : ℕ) (o : Operand) → k < length xs → SoundOperand xs (suc k) o → Fits a z (suc k) o → (suc k ≡ a → InRange (value_after xs a z a o)) → SoundOperand ys (suc k) (moved_operand a z (suc k) o)
+      operand_sound : (k : ℕ) (o : Operand) → k < length xs → SoundOperand xs (suc k) o → Fits a z (suc k) o → (suc k ≡ a → InRange (value_after xs a z o)) → SoundOperand ys (suc k) (moved_operand a z (suc k) o)
       operand_sound k o h s f own =
           let low = s.lower in
           record {
@@ -157,8 +157,8 @@ module _ (xs : Slots) (out : Operand) (a : ℕ) (z : ℤ) (keeps : KeepsRow xs o
           let s = keeps.adders k y e in
           let f = adder_fits a z xs keeps.adders one whole k y e in
           record {
-            left = operand_sound k y.left h s.left f.0 (λ q. subst (λ w. InRange (value_after xs a z a w.left)) (sym (same_adder k y e q)) left_range);
-            right = operand_sound k y.right h s.right f.1 (λ q. subst (λ w. InRange (value_after xs a z a w.right)) (sym (same_adder k y e q)) right_range);
+            left = operand_sound k y.left h s.left f.0 (λ q. subst (λ w. InRange (value_after xs a z w.left)) (sym (same_adder k y e q)) left_range);
+            right = operand_sound k y.right h s.right f.1 (λ q. subst (λ w. InRange (value_after xs a z w.right)) (sym (same_adder k y e q)) right_range);
             range = ⊎_elim (λ q. subst (λ j. InRange (value ys j)) (sym q) moved_range) (λ ne. subst InRange (sym (stays (suc k) ne (omega arith))) s.range) (cases_eq (suc k) a);
           }
 

@@ -22,5 +22,5 @@ abbrev pub live_rules : {A : Type 0} → ℕ → Option A → List Rule
 live_rules code o = code_rules code ++ rule (is_some o) CodeIdle ∷ []
 
 -- the row of a live code, as it is seen through what is answered, or the first cause why there is none
-abbrev pub Found : {X Y : Type 0} → Table X → ℕ → (Y → X) → Result Y Refusal → Type 0
-Found t code seen r = Answered (live_rules code (row_at t code)) (λ y. row_at t code ≡ Some (seen y)) r
+abbrev pub LiveRow : {X Y : Type 0} → Table X → ℕ → (Y → X) → Result Y Refusal → Type 0
+LiveRow t code seen r = Answered (live_rules code (row_at t code)) (λ y. row_at t code ≡ Some (seen y)) r

@@ -5,7 +5,7 @@ ghost use Rattle.std.specs.Prelude.{◌≡◌, ◌<◌, ⊤, replicate, Some, No
 ghost use Rattle.std.specs.Borrow.{sem, Lends, LendsIfOk};
 ghost use Rattle.std.specs.contracts.option.Option.{the_row as option_row};
 ghost use Rattle.adders.specs.Rules.{Changed};
-ghost use Rattle.tables.specs.Tables.{Found, code_rules, live_rules, row_at, with_place};
+ghost use Rattle.tables.specs.Tables.{LiveRow, code_rules, live_rules, row_at, with_place};
 ghost use Rattle.tables.specs.contracts.Table.{the_row as table_row};
 
 use adders::Refusal;
@@ -42,7 +42,7 @@ impl<R> Table<R> {
     // Lends the row of a live code.
     pub fn row_mut(&mut self, code: usize) -> Result<&mut R, Refusal>
         ensures* lent { sem 𝓛 (LendsIfOk (table_row R.row) R.row self.entry result (λ w. with_place self.old code (Some w)) self.old) }
-        ensures value { Found (self.old) code (λ r. r.now) result }
+        ensures value { LiveRow (self.old) code (λ r. r.now) result }
     {
         if code > 15 {
             return Err(Refusal::CodeAboveFifteen);
@@ -64,7 +64,7 @@ impl<R: Copy> Table<R> {
 
     // The row of a live code.
     pub fn row(&self, code: usize) -> Result<R, Refusal>
-        ensures { Found self.now code (λ r. r) result }
+        ensures { LiveRow self.now code (λ r. r) result }
     {
         if code > 15 {
             return Err(Refusal::CodeAboveFifteen);

@@ -2,7 +2,7 @@
 ghost use Rattle.std.specs.Prelude.{◌≡◌, Some};
 ghost use Rattle.adders.specs.Rules.{Answered, Changed};
 ghost use Rattle.rows.specs.Rows.{adder_at, constant_of};
-ghost use Rattle.rows.specs.Moving.{moving_rules, move_rules, MovedRow};
+ghost use Rattle.rows.specs.Moving.{limit_rules, move_rules, MovedRow};
 
 use super::Row;
 use adders::{Adder, Refusal, slot_values};
@@ -23,7 +23,7 @@ impl Row {
     // The row after the move of an adder that it uses.
     fn moved(&self, shift_move: ShiftMove, used: Adder) -> Result<Row, Refusal>
         requires { adder_at self.now shift_move.adder ≡ Some used }
-        ensures { Answered (moving_rules self.now shift_move.adder shift_move.amount) (λ row. MovedRow self.now shift_move.adder shift_move.amount row) result }
+        ensures { Answered (limit_rules self.now shift_move.adder shift_move.amount) (λ row. MovedRow self.now shift_move.adder shift_move.amount row) result }
     {
         let adder = shift_move.adder();
         let own = shift_move.moved_adder(used, adder)?;

@@ -4,7 +4,7 @@ use seplogic.Ra.Ura.{Ura}
 use base.Fraction.{full_share}
 use base.Logic.{SProp, ent, sep, via, fst∗, snd∗}
 use base.Fml.{Lft, GName, Share, ftrue, flft}
-use mir.Syntax.{Args, Fn, Ty, named, a_type}
+use mir.Syntax.{Args, Fn, named, a_type}
 use mir.MapTy.{inst_fn}
 use mir.Val.{Val, vint, vptr}
 use prog.Memory.{Memory, size, align, up}
