@@ -42,3 +42,10 @@ spare_behind xs ys m b h e = (
   grind (arith, common_steps, e, drop-replicate),
   ap (λ l. drop (length xs) (l ++ drop (length xs) (replicate m b))) e ∙ drop-append_seam xs (drop (length xs) (replicate m b)) ∙ drop-replicate (length xs) m b,
 )
+
+-- two lists of one length that have the same at each place are the same
+pub same_list : {A : Type 0} (d : A) (xs ys : List A) → length xs ≡ length ys → ((k : ℕ) → k < length xs → slice_index_or xs k d ≡ slice_index_or ys k d) → xs ≡ ys
+same_list d [] [] e f = refl
+same_list d [] (y ∷ ys) e f = absurd (omega arith)
+same_list d (x ∷ xs) [] e f = absurd (omega arith)
+same_list d (x ∷ xs) (y ∷ ys) e f = (λ i. f 0 (omega arith) i ∷ same_list d xs ys (omega arith) (λ k h. f (suc k) (omega arith)) i)

@@ -4,3 +4,4 @@ pub mod Founding
 pub mod Runs
 pub mod Same
 pub mod Examples
+pub mod Movable

@@ -1,19 +1,14 @@
 -- Blocks that have the same are the same.
-use Rattle.std.proofs.Common.{◌≡◌, ℕ, suc, ◌<◌, ◌≤◌, leb, List, [], ◌∷◌, length, get_or, None, sym, refl, ◌∙◌, arith}
+use Rattle.std.proofs.Common.{◌≡◌, ℕ, ◌≤◌, leb, get_or, None, sym, ◌∙◌, arith}
 use Rattle.std.proofs.lemmas.Bool.{cond-true, le-leb}
 use denote.Struct.Record.{values_one}
+use Rattle.adders.proofs.Places.{same_list}
 use Rattle.rows.specs.contracts.model.Row as row
 use Rattle.tables.specs.declared.Table.{Table}
 use Rattle.tables.specs.Tables.{row_at}
 use Rattle.tables.specs.contracts.Table as table
 use Rattle.blocks.specs.contracts.model.Block.{struct, the_propositions}
 use Rattle.blocks.specs.Blocks.{AllThatABlockHas}
-
-same_list : {A : Type 0} (d : A) (xs ys : List A) → length xs ≡ length ys → ((k : ℕ) → k < length xs → get_or xs k d ≡ get_or ys k d) → xs ≡ ys
-same_list d [] [] e f = refl
-same_list d [] (y ∷ ys) e f = absurd (omega arith)
-same_list d (x ∷ xs) [] e f = absurd (omega arith)
-same_list d (x ∷ xs) (y ∷ ys) e f = (λ i. f 0 (omega arith) i ∷ same_list d xs ys (omega arith) (λ k h. f (suc k) (omega arith)) i)
 
 -- the place of a code
 at_place : {A : Type 0} (t : Table A) (k : ℕ) → k ≤ 15 → row_at t k ≡ get_or t.rows k None

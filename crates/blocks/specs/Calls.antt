@@ -9,7 +9,7 @@ use Rattle.chains.specs.declared.model.Chain.{Chain}
 use Rattle.chains.specs.Chains.{chain_adders, chain_constant}
 use Rattle.rows.specs.declared.model.Row.{Row}
 use Rattle.rows.specs.Rows.{constant_of, RowOf}
-use Rattle.rows.specs.Moving.{move_rules, MovedRow}
+use Rattle.rows.specs.Moving.{move_rules, MovedRow, Movable}
 use Rattle.tables.specs.Tables.{code_rules, live_rules}
 use Rattle.blocks.specs.declared.model.Block.{Block}
 use Rattle.blocks.specs.Blocks.{row_of, Rewritten}
@@ -51,6 +51,12 @@ pub record Moved (b : Block) (code adder : ℕ) (amount : ℤ) (after : Block) :
   pub row : Row
   pub moved : MovedRow before adder amount row
   pub rest : Rewritten b code (Some row) after
+
+-- the code is live, and its row can be moved so
+pub record MovableAt (b : Block) (code adder : ℕ) (amount : ℤ) : Type 0 where
+  pub row : Row
+  pub there : row_of b code ≡ Some row
+  pub movable : Movable row adder amount
 
 abbrev pub Done : Call → Block → Block → Type 0
 Done (founding chain code width) b after = Founded chain code width after

@@ -76,7 +76,7 @@ none_balanced z = zero-mul (2 ^ down z) ∙ sym (zero-mul (2 ^ up z))
 value_none : (xs : Slots) (k : ℕ) → k < length xs → get_or xs k None ≡ None → value xs (suc k) ≡ 0
 value_none xs k h e = ap (value xs) (let p : suc k ≡ 1 + k = omega arith in p) ∙ value_at sample xs k h ∙ ap (slot_value _) e
 
-both_hold : (b c : Bool) (r : Refusal) → cond (b && c) None (Some r) ≡ None → (b ≡ true) × (c ≡ true)
+pub both_hold : (b c : Bool) (r : Refusal) → cond (b && c) None (Some r) ≡ None → (b ≡ true) × (c ≡ true)
 both_hold true true r e = (refl, refl)
 both_hold true false r e = absurd (some_none e)
 both_hold false c r e = absurd (some_none e)

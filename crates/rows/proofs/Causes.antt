@@ -145,7 +145,7 @@ constant_kept r after a z x used h moved =
     (λ i. row_constant (moved.slots i) (moved.output i))
     ∙ constant_stays r.slots r.output a z (row_keeps r) (there r a x used).low rest.0 (whole_parts outputs ranges rest.1).0
 
-used_then : (r : Row) (a : ℕ) (z : ℤ) (o : Option Adder) → cond (is_some o) (first_broken (amount_rules z ++ limit_rules r a z)) (Some AdderUnused) ≡ None → (x : Adder) × (o ≡ Some x) × (first_broken (amount_rules z ++ limit_rules r a z) ≡ None)
+pub used_then : (r : Row) (a : ℕ) (z : ℤ) (o : Option Adder) → cond (is_some o) (first_broken (amount_rules z ++ limit_rules r a z)) (Some AdderUnused) ≡ None → (x : Adder) × (o ≡ Some x) × (first_broken (amount_rules z ++ limit_rules r a z) ≡ None)
 used_then r a z None e = absurd (some_none e)
 used_then r a z (Some x) e = (x, refl, e)
 

@@ -6,3 +6,4 @@ pub mod Chained
 pub mod Answering
 pub mod Moving
 pub mod Causes
+pub mod Movable

@@ -1,9 +1,9 @@
 // Founding, retiring and moving, and what a block has.
-ghost use Rattle.std.specs.Prelude.{◌≡◌, Some};
+ghost use Rattle.std.specs.Prelude.{◌≡◌, ◌≤◌, Some, is_ok, Decides};
 ghost use Rattle.adders.specs.Rules.{Answered};
 ghost use Rattle.tables.specs.Tables.{live_rules};
-ghost use Rattle.blocks.specs.Blocks.{Unfounded, row_of, constant_at, SameConstants};
-ghost use Rattle.blocks.specs.Calls.{founding, retiring, moving, Step};
+ghost use Rattle.blocks.specs.Blocks.{Unfounded, row_of, Live, constant_at, SameConstants};
+ghost use Rattle.blocks.specs.Calls.{founding, retiring, moving, MovableAt, Step};
 ghost use Rattle.blocks.specs.Books.{empty_book, Tells, FollowsBook};
 
 use super::Block;
@@ -58,6 +58,7 @@ impl Block {
     // Starts anew with the row of a chain at one code, whatever was there.
     pub fn found(&mut self, chain: &Chain, code: usize, width: usize) -> Result<(), Refusal>
         ensures answer { Step (founding chain.now code width) self.old result self.new }
+        ensures exactly { Decides (is_ok result) ((code ≤ 15) × (1 ≤ width) × (width ≤ 32)) }
         ensures book { FollowsBook (founding chain.now code width) self.old result self.new }
     {
         let mut table = Table::new();
@@ -76,6 +77,7 @@ impl Block {
     // Makes a live code idle.
     pub fn retire(&mut self, code: usize) -> Result<(), Refusal>
         ensures answer { Step (retiring code) self.old result self.new }
+        ensures exactly { Decides (is_ok result) (Live self.old code) }
         ensures book { FollowsBook (retiring code) self.old result self.new }
     {
         let mut table = self.table;
@@ -91,6 +93,7 @@ impl Block {
     // Raises both shifts of an adder in the row of a live code, and lowers by as much whatever reads the adder there.
     pub fn move_shifts(&mut self, code: usize, adder: usize, amount: i64) -> Result<(), Refusal>
         ensures answer { Step (moving code adder amount) self.old result self.new }
+        ensures exactly { Decides (is_ok result) (MovableAt self.old code adder amount) }
         ensures constants { SameConstants self.old self.new }
         ensures book { FollowsBook (moving code adder amount) self.old result self.new }
     {

@@ -1,8 +1,8 @@
 // Moving the shifts of one adder of a row.
-ghost use Rattle.std.specs.Prelude.{◌≡◌, Some};
+ghost use Rattle.std.specs.Prelude.{◌≡◌, Some, is_ok, Decides};
 ghost use Rattle.adders.specs.Rules.{Answered, Changed};
 ghost use Rattle.rows.specs.Rows.{adder_at, constant_of};
-ghost use Rattle.rows.specs.Moving.{limit_rules, move_rules, MovedRow};
+ghost use Rattle.rows.specs.Moving.{limit_rules, move_rules, MovedRow, Movable};
 
 use super::Row;
 use adders::{Adder, Refusal, slot_values};
@@ -12,6 +12,7 @@ impl Row {
     // Raises both shifts of an adder by an amount, and lowers whatever reads the adder by as much; or the first cause against it.
     pub fn move_shifts(&mut self, adder: usize, amount: i64) -> Result<(), Refusal>
         ensures answer { Changed (move_rules self.old adder amount) self.old (λ _ row. MovedRow self.old adder amount row) result self.new }
+        ensures exactly { Decides (is_ok result) (Movable self.old adder amount) }
         ensures constant { constant_of self.new ≡ constant_of self.old }
     {
         let used = self.adder(adder).ok_or(Refusal::AdderUnused)?;

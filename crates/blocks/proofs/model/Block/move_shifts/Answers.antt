@@ -1,15 +1,17 @@
-use Rattle.std.proofs.Common.{◌≡◌, false, Some, None, Ok, sym, refl, ap, ◌∙◌, subst, w64}
+use Rattle.std.proofs.Common.{◌≡◌, true, false, Decides, Some, None, Ok, sym, refl, ap, ◌∙◌, subst, w64}
 use Rattle.std.proofs.lemmas.List.{length-set}
+use Rattle.std.proofs.lemmas.Result.{err_from_is_err_and}
 use Rattle.std.proofs.lemmas.Int.{to_z-of_z}
 use Rattle.adders.specs.Rules.{first_broken}
 use Rattle.adders.proofs.Broken.{whole_from}
-use Rattle.rows.specs.Moving.{move_rules, MovedRow}
+use Rattle.rows.specs.Moving.{move_rules, MovedRow, Movable}
 use Rattle.rows.proofs.Moving.{uses_kept}
 use Rattle.tables.specs.Tables.{live_rules}
 use Rattle.blocks.specs.Uses.{row_uses}
 use Rattle.blocks.specs.Blocks.{row_of, row_constant_of, constant_at}
 use Rattle.blocks.specs.Calls.{moving, row_move_rules}
 use Rattle.blocks.proofs.Books.{steps_follow_book}
+use Rattle.blocks.proofs.Movable.{movable_at}
 use Rattle.blocks.proofs.Placing.{below_sixteen, written, others_stay, at_each}
 use Rattle.blocks.proofs.model.Block.move_shifts.Goals as goal
 
@@ -60,3 +62,14 @@ returns-clause-constants c =
 
 pub returns-clause-book : goal.returns-clause-book
 returns-clause-book c = steps_follow_book (moving c.args.code c.args.adder c.args.amount) c.args.self.now (Ok tt) _ (returns-clause-answer c)
+
+pub returns-in_err-move_shifts-clause-exactly : goal.returns-in_err-move_shifts-clause-exactly
+returns-in_err-move_shifts-clause-exactly c =
+    let p = err_from_is_err_and c.from_residual-in_err-move_shifts.result c.from_residual-in_err-move_shifts.ensures.1 in
+    let told = subst (λ z. Decides false (Movable c.in_ok-row_mut.field-0.now c.args.adder z)) (to_z-of_z w64 c.args.amount c.ranges.amount) c.in_err-move_shifts.ensures.exactly in
+    rw p.1 (movable_at c.args.self.now c.args.code c.args.adder c.args.amount c.in_ok-row_mut.field-0.now c.in_ok-row_mut.ensures.value.1 false told)
+
+pub returns-clause-exactly : goal.returns-clause-exactly
+returns-clause-exactly c =
+    let told = subst (λ z. Decides true (Movable c.in_ok-row_mut.field-0.now c.args.adder z)) (to_z-of_z w64 c.args.amount c.ranges.amount) c.in_ok-move_shifts.ensures.exactly in
+    movable_at c.args.self.now c.args.code c.args.adder c.args.amount c.in_ok-row_mut.field-0.now c.in_ok-row_mut.ensures.value.1 true told
