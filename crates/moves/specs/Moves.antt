@@ -9,7 +9,7 @@ use Rattle.adders.specs.declared.refusals.Refusal.TheVariants.{AmountOutOfRange,
 use Rattle.adders.specs.Values.{Slots}
 use Rattle.adders.specs.Rules.{Rule, rule}
 
--- an amount lies from -30 to 30
+-- an amount lies from -30, which is negsuc 29, to 30
 abbrev pub amount_rules : ℤ → List Rule
 amount_rules z = rule (int_le (negsuc 29) z && int_le z (pos 30)) AmountOutOfRange ∷ []
 

@@ -6,7 +6,7 @@ use Rattle.adders.specs.Values.{Slots, value}
 use Rattle.adders.specs.Rules.{first_broken, Sound}
 use Rattle.moves.specs.Moves.{shift_rules_from, moved_from}
 
--- w is v times 2 ^ z
+-- w is v times 2 ^ z; negsuc n is -(n + 1)
 abbrev pub Scaled : ℤ → ℕ → ℕ → Type 0
 Scaled (pos n) v w = w ≡ v * 2 ^ n
 Scaled (negsuc n) v w = w * 2 ^ suc n ≡ v

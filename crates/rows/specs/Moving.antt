@@ -56,7 +56,7 @@ pub record RowShifted (r : Row) (a : ℕ) (z : ℤ) (after : Row) : Type 0 where
   pub slots : (k : ℕ) → SlotShifted a z (suc k) (slice_index_or r.slots k None) (slice_index_or after.slots k None)
   pub output : OperandShifted a z 0 r.output after.output
 
--- the row uses the adder, the amount is in its range, and there is a row with these shifts: every row that exists keeps the rules of a row
+-- the row uses the adder, the amount lies from -30 to 30, and there is a row with these shifts: every row that exists keeps the rules of a row
 pub record Movable (r : Row) (a : ℕ) (z : ℤ) : Type 0 where
   pub used : is_some (adder_at r a) ≡ true
   pub least : negsuc 29 ≤ℤ z
