@@ -1,5 +1,5 @@
 // Codes and widths at their limits.
-use crate::moves::{CODE, fault, founded};
+use crate::moving::{CODE, fault, founded};
 use adders::Refusal;
 use arith::Word;
 use blocks::Block;

@@ -1,5 +1,5 @@
 // A few calls after one another.
-use crate::moves::{CODE, fault, founded};
+use crate::moving::{CODE, fault, founded};
 use adders::Refusal;
 use arith::{Frame, Mod255, Residue, Word};
 use blocks::Block;

@@ -3,7 +3,7 @@
 
 mod codes;
 mod histories;
-mod moves;
+mod moving;
 
 use std::io;
 
@@ -21,8 +21,8 @@ fn report(rt: &HostRuntime, name: &str, cases: &[(&'static str, bool)]) -> io::R
 }
 
 fn main(rt: HostRuntime) -> io::Result<()> {
-    report(&rt, "accepted moves", &moves::accepted())?;
-    report(&rt, "moves refused by the row", &moves::refused())?;
+    report(&rt, "accepted moves", &moving::accepted())?;
+    report(&rt, "moves refused by the row", &moving::refused())?;
     report(&rt, "foundings", &codes::foundings())?;
     report(&rt, "idle codes and codes above 15", &codes::turned_down())?;
     report(&rt, "histories", &histories::all())

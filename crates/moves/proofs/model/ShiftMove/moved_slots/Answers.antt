@@ -1,10 +1,9 @@
 use Rattle.std.proofs.Common.{◌≡◌, ◌+◌, length, drop, ap, ◌∙◌, arith, rules}
-use Rattle.std.proofs.lemmas.List.{length-set}
 use Rattle.std.proofs.lemmas.Result.{err_from_is_err_and}
 use Rattle.adders.specs.Rules.{first_broken}
 use Rattle.adders.proofs.Broken.{otherwise}
 use Rattle.moves.specs.Moves.{shift_rules_from}
-use Rattle.moves.proofs.Turns.{rules_more, moved_more}
+use Rattle.moves.proofs.Turns.{rules_more}
 use Rattle.moves.proofs.model.ShiftMove.moved_slots.Goals as goal
 
 pub returns-in_err-moved : goal.returns-in_err-moved
@@ -15,17 +14,3 @@ returns-in_err-moved c =
     let i = c.loop-i.i in
     let eight : length xs ≡ 8 = search rules in
     rw (p.1, p.2) (c.loop-i.invariant.1 ∙ rules_more m.adder m.amount xs i (omega arith) ∙ ap (λ o. otherwise o (first_broken (shift_rules_from m.adder m.amount (i + 1 + 1) (drop (i + 1) xs)))) c.in_err-moved.ensures)
-
-pub loop-i-preserved : goal.loop-i-preserved
-loop-i-preserved c =
-    let m = c.args.self in
-    let xs = c.args.slots in
-    let i = c.loop-i.i in
-    let moved = c.loop-i.moved in
-    let y = c.in_ok-moved.field-0 in
-    let eight : length xs ≡ 8 = search rules in
-    let told = c.in_ok-moved.ensures in (
-      length-set moved i y ∙ c.loop-i.invariant.0,
-      c.loop-i.invariant.1 ∙ rules_more m.adder m.amount xs i (omega arith) ∙ ap (λ o. otherwise o (first_broken (shift_rules_from m.adder m.amount (i + 1 + 1) (drop (i + 1) xs)))) told.0,
-      c.loop-i.invariant.2 ∙ moved_more m.adder m.amount xs i (omega arith) moved y (omega (arith, c.loop-i.invariant.0)) told.1,
-    )
