@@ -45,7 +45,7 @@ impl ShiftMove {
         if source == self.adder { self.amount } else { 0 }
     }
 
-    // The shift of an operand afterwards, whether or not it is one.
+    // The shift that an operand would have afterwards, in its range or not.
     fn new_shift(self, operand: Operand, reader: usize) -> i64
         ensures { result ≡ new_shift self.adder self.amount reader operand }
     {
