@@ -11,7 +11,8 @@ use Rattle.adders.specs.Rules.{Rule, rule, first_broken, in_range, InRange, oper
 use Rattle.adders.proofs.Broken.{some_none, broken_first, broken_rest, whole_parts}
 use Rattle.adders.proofs.Follow.{follow, within, length_values}
 use Rattle.moves.specs.Moves.{amount_rules, operand_shift_rules, slot_shift_rules, shift_rules_from, moved_operand, moved_adder, moved_slot, moved_from}
-use Rattle.moves.proofs.Scales.{Fits, adder_fits, at_moved, length_moved}
+use Rattle.moves.specs.Scaling.{ValuesMove}
+use Rattle.moves.proofs.Scales.{Fits, adder_fits, at_moved, length_moved, moving_scales}
 use Rattle.rows.specs.declared.model.Row.{Row}
 use Rattle.rows.specs.Rules.{row_constant, row_rules, KeepsRow}
 use Rattle.rows.specs.Rows.{adder_at, constant_of}
@@ -135,21 +136,39 @@ module _ (r : Row) (a : ℕ) (z : ℤ) (x : Adder) (used : adder_at r a ≡ Some
     pub lawful_after : is_some (first_broken (row_rules slots output)) ≡ false
     lawful_after = ap is_some (rules_from_keeps slots output keeps_after)
 
--- What an accepted move leaves has the constant that was there.
-pub constant_kept : (r after : Row) (a : ℕ) (z : ℤ) (x : Adder) → adder_at r a ≡ Some x → first_broken (limit_rules r a z) ≡ None → MovedRow r a z after → constant_of after ≡ constant_of r
-constant_kept r after a z x used h moved =
+-- each of the limits by itself
+pub record Limits (r : Row) (a : ℕ) (z : ℤ) : Type 0 where
+  pub own : first_broken (slot_shift_rules a z a (adder_at r a)) ≡ None
+  pub readers : first_broken (shift_rules_from a z 1 r.slots) ≡ None
+  pub output : first_broken (operand_shift_rules a z 0 r.output) ≡ None
+  pub ranges : first_broken (range_rules r.slots a z (adder_at r a)) ≡ None
+
+pub limits : (r : Row) (a : ℕ) (z : ℤ) → first_broken (limit_rules r a z) ≡ None → Limits r a z
+limits r a z h =
     let ranges = range_rules r.slots a z (adder_at r a) in
     let outputs = operand_shift_rules a z 0 r.output in
     let readers = shift_rules_from a z 1 r.slots in
-    let rest = whole_parts readers (outputs ++ ranges) (whole_parts (slot_shift_rules a z a (adder_at r a)) (readers ++ (outputs ++ ranges)) h).1 in
-    (λ i. row_constant (moved.slots i) (moved.output i))
-    ∙ constant_stays r.slots r.output a z (row_keeps r) (there r a x used).low rest.0 (whole_parts outputs ranges rest.1).0
+    let first = whole_parts (slot_shift_rules a z a (adder_at r a)) (readers ++ (outputs ++ ranges)) h in
+    let second = whole_parts readers (outputs ++ ranges) first.1 in
+    let third = whole_parts outputs ranges second.1 in
+    record { own = first.0; readers = second.0; output = third.0; ranges = third.1 }
 
 pub used_then : (r : Row) (a : ℕ) (z : ℤ) (o : Option Adder) → cond (is_some o) (first_broken (amount_rules z ++ limit_rules r a z)) (Some AdderUnused) ≡ None → (x : Adder) × (o ≡ Some x) × (first_broken (amount_rules z ++ limit_rules r a z) ≡ None)
 used_then r a z None e = absurd (some_none e)
 used_then r a z (Some x) e = (x, refl, e)
 
-pub move_keeps_constant : (r after : Row) (a : ℕ) (z : ℤ) → first_broken (move_rules r a z) ≡ None → MovedRow r a z after → constant_of after ≡ constant_of r
-move_keeps_constant r after a z h moved =
-    let u = used_then r a z (adder_at r a) h in
-    constant_kept r after a z u.0 u.1 (whole_parts (amount_rules z) (limit_rules r a z) u.2).1 moved
+-- What an accepted move leaves.
+module _ (r after : Row) (a : ℕ) (z : ℤ) (h : first_broken (move_rules r a z) ≡ None) (moved : MovedRow r a z after) where
+  low : 1 ≤ a
+  low = let u = used_then r a z (adder_at r a) h in (there r a u.0 u.1).low
+
+  held : Limits r a z
+  held = limits r a z (whole_parts (amount_rules z) (limit_rules r a z) (used_then r a z (adder_at r a) h).2).1
+
+  pub move_keeps_constant : constant_of after ≡ constant_of r
+  move_keeps_constant =
+      (λ i. row_constant (moved.slots i) (moved.output i))
+      ∙ constant_stays r.slots r.output a z (row_keeps r) low held.readers held.output
+
+  pub move_scales_value : ValuesMove a z r.slots after.slots
+  move_scales_value = subst (ValuesMove a z r.slots) (sym moved.slots) (moving_scales a z r.slots low (row_keeps r).adders held.readers)

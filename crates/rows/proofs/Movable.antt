@@ -20,7 +20,7 @@ use Rattle.rows.specs.Rows.{adder_at}
 use Rattle.rows.specs.Moving.{range_rules, limit_rules, move_rules, MovedRow, OperandShifted, AdderShifted, SlotShifted, RowShifted, Movable}
 use Rattle.rows.proofs.Answering.{row_keeps, there}
 use Rattle.rows.proofs.Moving.{stays}
-use Rattle.rows.proofs.Causes.{used_then}
+use Rattle.rows.proofs.Causes.{Limits, limits, used_then}
 
 in_ranges : (v w : ℕ) (e : Refusal) → InRange v → InRange w → cond (in_range v && in_range w) None (Some e) ≡ None
 in_ranges v w e p q = grind (arith, nat_tests)
@@ -127,17 +127,14 @@ module _ (r after : Row) (a : ℕ) (z : ℤ) (h : first_broken (limit_rules r a 
       let parts = whole_parts (operand_shift_rules a z j x.left) (operand_shift_rules a z j x.right) e in
       record { left = operand_shifted j x.left parts.0; sign = refl; right = operand_shifted j x.right parts.1 }
 
-  readers : first_broken (shift_rules_from a z 1 r.slots ++ (operand_shift_rules a z 0 r.output ++ range_rules r.slots a z (adder_at r a))) ≡ None
-  readers = (whole_parts (slot_shift_rules a z a (adder_at r a)) (shift_rules_from a z 1 r.slots ++ (operand_shift_rules a z 0 r.output ++ range_rules r.slots a z (adder_at r a))) h).1
-
-  split : (first_broken (shift_rules_from a z 1 r.slots) ≡ None) × (first_broken (operand_shift_rules a z 0 r.output ++ range_rules r.slots a z (adder_at r a)) ≡ None)
-  split = whole_parts (shift_rules_from a z 1 r.slots) (operand_shift_rules a z 0 r.output ++ range_rules r.slots a z (adder_at r a)) readers
+  held : Limits r a z
+  held = limits r a z h
 
   slot_rule : (k : ℕ) (o : Option Adder) → get_or r.slots k None ≡ o → first_broken (slot_shift_rules a z (suc k) o) ≡ None
   slot_rule k None e = refl
   slot_rule k (Some x) e =
       subst (λ o. first_broken (slot_shift_rules a z (suc k) o) ≡ None) e
-      (subst (λ n. first_broken (slot_shift_rules a z n (get_or r.slots k None)) ≡ None) (let p : 1 + k ≡ suc k = omega arith in p) (rules_at a z 1 r.slots split.0 k (within r.slots k x e)))
+      (subst (λ n. first_broken (slot_shift_rules a z n (get_or r.slots k None)) ≡ None) (let p : 1 + k ≡ suc k = omega arith in p) (rules_at a z 1 r.slots held.readers k (within r.slots k x e)))
 
   at_place : (k : ℕ) → get_or after.slots k None ≡ moved_slot a z (suc k) (get_or r.slots k None)
   at_place k = ap (λ ys. get_or ys k None) moved.slots ∙ at_moved a z 1 r.slots k ∙ ap (λ n. moved_slot a z n (get_or r.slots k None)) (let p : 1 + k ≡ suc k = omega arith in p)
@@ -145,7 +142,7 @@ module _ (r after : Row) (a : ℕ) (z : ℤ) (h : first_broken (limit_rules r a 
   row_shifted : RowShifted r a z after
   row_shifted = record {
     slots = λ k. subst (SlotShifted a z (suc k) (get_or r.slots k None)) (sym (at_place k)) (slot_shifted (suc k) (get_or r.slots k None) (slot_rule k (get_or r.slots k None) refl));
-    output = subst (OperandShifted a z 0 r.output) (sym moved.output) (operand_shifted 0 r.output (whole_parts (operand_shift_rules a z 0 r.output) (range_rules r.slots a z (adder_at r a)) split.1).0);
+    output = subst (OperandShifted a z 0 r.output) (sym moved.output) (operand_shifted 0 r.output held.output);
   }
 
 amount_held : (z : ℤ) → negsuc 29 ≤ℤ z → z ≤ℤ pos 30 → first_broken (amount_rules z) ≡ None

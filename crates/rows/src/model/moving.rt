@@ -1,6 +1,7 @@
 // Moving the shifts of one adder of a row.
-ghost use Rattle.std.specs.Prelude.{◌≡◌, Some, is_ok, Decides};
+ghost use Rattle.std.specs.Prelude.{◌≡◌, Some, is_ok, IfOk, Decides};
 ghost use Rattle.adders.specs.Rules.{Answered, Changed};
+ghost use Rattle.moves.specs.Scaling.{ValuesMove};
 ghost use Rattle.rows.specs.Rows.{adder_at, constant_of};
 ghost use Rattle.rows.specs.Moving.{limit_rules, move_rules, MovedRow, Movable};
 
@@ -13,6 +14,7 @@ impl Row {
     pub fn move_shifts(&mut self, adder: usize, amount: i64) -> Result<(), Refusal>
         ensures answer { Changed (move_rules self.old adder amount) self.old (λ _ row. MovedRow self.old adder amount row) result self.new }
         ensures exactly { Decides (is_ok result) (Movable self.old adder amount) }
+        ensures values { IfOk result (λ _. ValuesMove adder amount self.old.slots self.new.slots) }
         ensures constant { constant_of self.new ≡ constant_of self.old }
     {
         let used = self.adder(adder).ok_or(Refusal::AdderUnused)?;
