@@ -14,7 +14,7 @@ use Rattle.adders.specs.Values.{Slots, combined, slot_value, sample, value}
 use Rattle.adders.specs.Rules.{first_broken, Sound}
 use Rattle.adders.proofs.Broken.{some_none, whole_parts}
 use Rattle.adders.proofs.Follow.{follow, value_at, within}
-use Rattle.moves.specs.Moves.{rise, new_shift, operand_shift_rules, slot_shift_rules, shift_rules_from, moved_operand, moved_adder, moved_slot, moved_from}
+use Rattle.moves.specs.Moves.{rise, new_shift, operand_shift_rules, adder_shift_rules, slot_shift_rules, shift_rules_from, moved_operand, moved_adder, moved_slot, moved_from}
 use Rattle.moves.specs.Scaling.{Scaled, MovingScales}
 
 -- an amount as how far up and how far down, of which one is 0
@@ -91,18 +91,26 @@ module _ (a : ℕ) (z : ℤ) where
   length_moved j (x ∷ xs) = ap suc (length_moved (j + 1) xs)
 
   -- what stands in a slot afterwards, and the rules of that slot
-  pub at_moved : (j : ℕ) (xs : Slots) (k : ℕ) → get_or (moved_from a z j xs) k None ≡ moved_slot a z (j + k) (get_or xs k None)
+  at_moved : (j : ℕ) (xs : Slots) (k : ℕ) → get_or (moved_from a z j xs) k None ≡ moved_slot a z (j + k) (get_or xs k None)
   at_moved j [] k = refl
   at_moved j (x ∷ xs) zero = ap (λ n. moved_slot a z n x) (let p : j ≡ j + 0 = omega arith in p)
   at_moved j (x ∷ xs) (suc k) = at_moved (j + 1) xs k ∙ ap (λ n. moved_slot a z n (get_or xs k None)) (let p : j + 1 + k ≡ j + suc k = omega arith in p)
 
-  pub rules_at : (j : ℕ) (xs : Slots) → first_broken (shift_rules_from a z j xs) ≡ None → (k : ℕ) → k < length xs → first_broken (slot_shift_rules a z (j + k) (get_or xs k None)) ≡ None
+  pub at_slot : (xs : Slots) (k : ℕ) → get_or (moved_from a z 1 xs) k None ≡ moved_slot a z (suc k) (get_or xs k None)
+  at_slot xs k = at_moved 1 xs k ∙ ap (λ n. moved_slot a z n (get_or xs k None)) (let p : 1 + k ≡ suc k = omega arith in p)
+
+  rules_at : (j : ℕ) (xs : Slots) → first_broken (shift_rules_from a z j xs) ≡ None → (k : ℕ) → k < length xs → first_broken (slot_shift_rules a z (j + k) (get_or xs k None)) ≡ None
   rules_at j [] e k h = absurd (omega arith)
   rules_at j (x ∷ xs) e zero h =
       subst (λ n. first_broken (slot_shift_rules a z n x) ≡ None) (let p : j ≡ j + 0 = omega arith in p) (whole_parts (slot_shift_rules a z j x) (shift_rules_from a z (j + 1) xs) e).0
   rules_at j (x ∷ xs) e (suc k) h =
       subst (λ n. first_broken (slot_shift_rules a z n (get_or xs k None)) ≡ None) (let p : j + 1 + k ≡ j + suc k = omega arith in p)
       (rules_at (j + 1) xs (whole_parts (slot_shift_rules a z j x) (shift_rules_from a z (j + 1) xs) e).1 k (omega arith))
+
+  pub rules_of : (xs : Slots) → first_broken (shift_rules_from a z 1 xs) ≡ None → (k : ℕ) (x : Adder) → get_or xs k None ≡ Some x → first_broken (adder_shift_rules a z (suc k) x) ≡ None
+  rules_of xs whole k x e =
+      subst (λ o. first_broken (slot_shift_rules a z (suc k) o) ≡ None) e
+      (subst (λ n. first_broken (slot_shift_rules a z n (get_or xs k None)) ≡ None) (let p : 1 + k ≡ suc k = omega arith in p) (rules_at 1 xs whole k (within xs k x e)))
 
   -- an operand whose shift stays in its range
   pub record Fits (j : ℕ) (o : Operand) : Type 0 where
@@ -123,14 +131,9 @@ module _ (a : ℕ) (z : ℤ) where
     abbrev ys : Slots
     ys = moved_from a z 1 xs
 
-    pub at_place : (k : ℕ) → get_or ys k None ≡ moved_slot a z (suc k) (get_or xs k None)
-    at_place k = at_moved 1 xs k ∙ ap (λ n. moved_slot a z n (get_or xs k None)) (let p : 1 + k ≡ suc k = omega arith in p)
-
     pub adder_fits : (k : ℕ) (x : Adder) → get_or xs k None ≡ Some x → Fits (suc k) x.left × Fits (suc k) x.right
     adder_fits k x e =
-        let h = within xs k x e in
-        let rules = subst (λ o. first_broken (slot_shift_rules a z (suc k) o) ≡ None) e (subst (λ n. first_broken (slot_shift_rules a z n (get_or xs k None)) ≡ None) (let p : 1 + k ≡ suc k = omega arith in p) (rules_at 1 xs whole k h)) in
-        let parts = whole_parts (operand_shift_rules a z (suc k) x.left) (operand_shift_rules a z (suc k) x.right) rules in
+        let parts = whole_parts (operand_shift_rules a z (suc k) x.left) (operand_shift_rules a z (suc k) x.right) (rules_of xs whole k x e) in
         (fits (suc k) x.left parts.0, fits (suc k) x.right parts.1)
 
     AllTo : ℕ → Type 0
@@ -141,7 +144,7 @@ module _ (a : ℕ) (z : ℤ) where
     slot_balanced k h before None e =
         let none = value_none xs k h e in
         let longer : k < length ys = omega (arith, length_moved 1 xs) in
-        let none' = value_none ys k longer (at_place k ∙ ap (moved_slot a z (suc k)) e) in
+        let none' = value_none ys k longer (at_slot xs k ∙ ap (moved_slot a z (suc k)) e) in
         subst (λ n. Balanced (rise a z (suc k)) n (value ys (suc k))) (sym none) (subst (Balanced (rise a z (suc k)) 0) (sym none') (none_balanced (rise a z (suc k))))
     slot_balanced k h before (Some x) e =
         let s = sound k x e in
@@ -150,7 +153,7 @@ module _ (a : ℕ) (z : ℤ) where
         let high : x.right.source ≤ k = omega (arith, s.right.lower) in
         let r = rise a z (suc k) in
         let is = follow.adder_is xs k x e low high in
-        let is' = follow.adder_is ys k (moved_adder a z (suc k) x) (at_place k ∙ ap (moved_slot a z (suc k)) e) low high in
+        let is' = follow.adder_is ys k (moved_adder a z (suc k) x) (at_slot xs k ∙ ap (moved_slot a z (suc k)) e) low high in
         let l = operand_moved (suc k) x.left (value xs x.left.source) (value ys x.left.source) f.0 (before x.left.source low (omega arith)) in
         let m = operand_moved (suc k) x.right (value xs x.right.source) (value ys x.right.source) f.1 (before x.right.source high (omega arith)) in
         subst (λ n. Balanced r n (value ys (suc k))) (sym is) (subst (Balanced r _) (sym is') (combined_balanced x.sign r _ _ _ _ l m))

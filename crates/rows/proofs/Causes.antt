@@ -1,5 +1,5 @@
 -- The causes against a move, one stage after the other.
-use Rattle.std.proofs.Common.{◌≡◌, ℕ, suc, ◌+◌, ◌-◌, ◌*◌, ◌^◌, ◌<◌, ◌≤◌, ◌&&◌, Bool, true, false, cond, ℤ, List, [], ◌∷◌, ◌++◌, length, get_or, take, is_some, Some, None, Option, sym, refl, ap, ◌∙◌, subst, arith}
+use Rattle.std.proofs.Common.{◌≡◌, ℕ, suc, ◌-◌, ◌*◌, ◌^◌, ◌<◌, ◌≤◌, ◌&&◌, Bool, true, false, cond, ℤ, List, [], ◌∷◌, ◌++◌, length, get_or, take, is_some, Some, None, Option, sym, refl, ap, ◌∙◌, subst, arith}
 use Rattle.std.proofs.lemmas.List.{get_or-take, length-take-le}
 use Rattle.std.proofs.lemmas.Bool.Decides.{nat_tests}
 use Rattle.adders.specs.declared.wiring.Adder.{Adder}
@@ -12,7 +12,7 @@ use Rattle.adders.proofs.Broken.{some_none, broken_first, broken_rest, whole_par
 use Rattle.adders.proofs.Follow.{follow, within, length_values}
 use Rattle.moves.specs.Moves.{amount_rules, operand_shift_rules, slot_shift_rules, shift_rules_from, moved_operand, moved_adder, moved_slot, moved_from}
 use Rattle.moves.specs.Scaling.{ValuesMove}
-use Rattle.moves.proofs.Scales.{Fits, adder_fits, at_moved, length_moved, moving_scales}
+use Rattle.moves.proofs.Scales.{Fits, adder_fits, at_slot, length_moved, moving_scales}
 use Rattle.rows.specs.declared.model.Row.{Row}
 use Rattle.rows.specs.Rules.{row_constant, row_rules, KeepsRow}
 use Rattle.rows.specs.Rows.{adder_at, constant_of}
@@ -82,7 +82,7 @@ module _ (xs : Slots) (out : Operand) (a : ℕ) (z : ℤ) (keeps : KeepsRow xs o
       let s = keeps.adders p x there in
       let h = within xs p x there in
       let ys = moved_from a z 1 xs in
-      let there' : get_or ys p None ≡ Some (moved_adder a z a x) = at_moved a z 1 xs p ∙ (λ i. moved_slot a z ((let q : 1 + p ≡ a = omega (arith, suc_p) in q) i) (there i)) in
+      let there' : get_or ys p None ≡ Some (moved_adder a z a x) = at_slot a z xs p ∙ (λ i. moved_slot a z (suc_p i) (there i)) in
       let l = stays xs out a z keeps one whole last x.left.source (omega (arith, s.left.lower)) (omega (arith, s.left.lower)) in
       let m = stays xs out a z keeps one whole last x.right.source (omega (arith, s.right.lower)) (omega (arith, s.right.lower)) in
       (λ i. combined x.sign ((source x.left.source (omega (arith, s.left.lower)) ∙ sym l) i * 2 ^ (moved_operand a z a x.left).shift) ((source x.right.source (omega (arith, s.right.lower)) ∙ sym m) i * 2 ^ (moved_operand a z a x.right).shift))

@@ -12,9 +12,8 @@ use Rattle.adders.specs.Values.{Slots, value}
 use Rattle.adders.specs.Rules.{first_broken, InRange, in_range, Changed}
 use Rattle.adders.proofs.Places.{same_list}
 use Rattle.adders.proofs.Broken.{some_none, whole_parts, whole_from}
-use Rattle.adders.proofs.Follow.{within}
 use Rattle.moves.specs.Moves.{amount_rules, new_shift, operand_shift_rules, slot_shift_rules, shift_rules_from, moved_operand, moved_adder, moved_slot, moved_from}
-use Rattle.moves.proofs.Scales.{both_hold, at_moved, rules_at, fits, length_moved}
+use Rattle.moves.proofs.Scales.{both_hold, at_slot, rules_of, fits, length_moved}
 use Rattle.rows.specs.declared.model.Row.{Row}
 use Rattle.rows.specs.Rows.{adder_at}
 use Rattle.rows.specs.Moving.{range_rules, limit_rules, move_rules, MovedRow, OperandShifted, AdderShifted, SlotShifted, RowShifted, Movable}
@@ -63,9 +62,7 @@ module _ (a : ℕ) (z : ℤ) where
   rows_is : (r after : Row) → RowShifted r a z after → after.slots ≡ moved_from a z 1 r.slots
   rows_is r after s =
       same_list None after.slots (moved_from a z 1 r.slots) (after.room ∙ sym (length_moved a z 1 r.slots ∙ r.room)) (λ k h.
-      slot_is (suc k) (get_or r.slots k None) (get_or after.slots k None) (s.slots k)
-      ∙ ap (λ n. moved_slot a z n (get_or r.slots k None)) (let p : suc k ≡ 1 + k = omega arith in p)
-      ∙ sym (at_moved a z 1 r.slots k))
+      slot_is (suc k) (get_or r.slots k None) (get_or after.slots k None) (s.slots k) ∙ sym (at_slot a z r.slots k))
 
 module _ (r : Row) (a : ℕ) (z : ℤ) (m : Movable r a z) where
   own_held : first_broken (slot_shift_rules a z a (adder_at r a)) ≡ None
@@ -98,7 +95,7 @@ module _ (r : Row) (a : ℕ) (z : ℤ) (m : Movable r a z) where
           let up : suc (a - 1) ≡ a = omega (arith, t.low) in
           let is = rows_is a z r m.after m.shifted in
           let then : get_or m.after.slots (a - 1) None ≡ Some (moved_adder a z a x) =
-          ap (λ ys. get_or ys (a - 1) None) is ∙ at_moved a z 1 r.slots (a - 1) ∙ (λ i. moved_slot a z ((let q : 1 + (a - 1) ≡ a = omega (arith, t.low) in q) i) (t.slot i)) in
+          ap (λ ys. get_or ys (a - 1) None) is ∙ at_slot a z r.slots (a - 1) ∙ (λ i. moved_slot a z (up i) (t.slot i)) in
           let s = (row_keeps m.after).adders (a - 1) (moved_adder a z a x) then in
           let same : (o : ℕ) → o < a → value m.after.slots o ≡ value r.slots o =
           λ o h. ap (λ ys. value ys o) is ∙ stays r.slots r.output a z (row_keeps r) t.low readers_held output_held o (omega arith) (let room = r.room in let high = t.high in omega arith) in
@@ -132,16 +129,11 @@ module _ (r after : Row) (a : ℕ) (z : ℤ) (h : first_broken (limit_rules r a 
 
   slot_rule : (k : ℕ) (o : Option Adder) → get_or r.slots k None ≡ o → first_broken (slot_shift_rules a z (suc k) o) ≡ None
   slot_rule k None e = refl
-  slot_rule k (Some x) e =
-      subst (λ o. first_broken (slot_shift_rules a z (suc k) o) ≡ None) e
-      (subst (λ n. first_broken (slot_shift_rules a z n (get_or r.slots k None)) ≡ None) (let p : 1 + k ≡ suc k = omega arith in p) (rules_at a z 1 r.slots held.readers k (within r.slots k x e)))
-
-  at_place : (k : ℕ) → get_or after.slots k None ≡ moved_slot a z (suc k) (get_or r.slots k None)
-  at_place k = ap (λ ys. get_or ys k None) moved.slots ∙ at_moved a z 1 r.slots k ∙ ap (λ n. moved_slot a z n (get_or r.slots k None)) (let p : 1 + k ≡ suc k = omega arith in p)
+  slot_rule k (Some x) e = rules_of a z r.slots held.readers k x e
 
   row_shifted : RowShifted r a z after
   row_shifted = record {
-    slots = λ k. subst (SlotShifted a z (suc k) (get_or r.slots k None)) (sym (at_place k)) (slot_shifted (suc k) (get_or r.slots k None) (slot_rule k (get_or r.slots k None) refl));
+    slots = λ k. subst (SlotShifted a z (suc k) (get_or r.slots k None)) (sym (ap (λ ys. get_or ys k None) moved.slots ∙ at_slot a z r.slots k)) (slot_shifted (suc k) (get_or r.slots k None) (slot_rule k (get_or r.slots k None) refl));
     output = subst (OperandShifted a z 0 r.output) (sym moved.output) (operand_shifted 0 r.output held.output);
   }
 

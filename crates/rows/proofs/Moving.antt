@@ -1,5 +1,5 @@
 -- A row whose shifts were moved keeps every rule, and its constant.
-use Rattle.std.proofs.Common.{◌≡◌, ℕ, zero, suc, ◌+◌, ◌-◌, ◌*◌, ◌^◌, ◌<◌, ◌≤◌, Bool, true, false, cond, leb, ◌≢◌, ℤ, pos, length, get_or, is_some, Some, None, Option, sym, refl, ap, ◌∙◌, subst, inl, inr, ⊎_elim, mul-one, one-mul, mul-le-mul_right, arith}
+use Rattle.std.proofs.Common.{◌≡◌, ℕ, zero, suc, ◌-◌, ◌*◌, ◌^◌, ◌<◌, ◌≤◌, Bool, true, false, cond, leb, ◌≢◌, ℤ, pos, length, get_or, is_some, Some, None, Option, sym, refl, ap, ◌∙◌, subst, inl, inr, ⊎_elim, mul-one, one-mul, mul-le-mul_right, arith}
 use Rattle.std.proofs.Math.Nat.{mul-le-mul_left, zero-mul}
 use Rattle.std.proofs.lemmas.Nat.{pow_pos}
 use Rattle.std.proofs.lemmas.Bool.{cases_eq, ne_eqb}
@@ -11,7 +11,7 @@ use Rattle.adders.specs.Rules.{first_broken, InRange, SoundOperand, SoundAdder, 
 use Rattle.adders.proofs.Broken.{some_none}
 use Rattle.adders.proofs.Follow.{within}
 use Rattle.moves.specs.Moves.{rise, operand_shift_rules, shift_rules_from, moved_operand, moved_adder, moved_slot, moved_from}
-use Rattle.moves.proofs.Scales.{up, down, Balanced, Fits, fits, operand_moved, at_moved, length_moved, adder_fits, balanced, moving_scales}
+use Rattle.moves.proofs.Scales.{up, down, Balanced, Fits, fits, operand_moved, at_slot, length_moved, adder_fits, balanced, moving_scales}
 use Rattle.rows.specs.declared.model.Row.{Row}
 use Rattle.rows.specs.Rows.{adder_at}
 use Rattle.rows.specs.Reading.{HasSource, Reads, directly, through}
@@ -26,11 +26,11 @@ slot_used a z j (Some x) = refl
 pub uses_kept : (r after : Row) (a : ℕ) (z : ℤ) → MovedRow r a z after → (j : ℕ) → is_some (adder_at after j) ≡ is_some (adder_at r j)
 uses_kept r after a z moved j =
     ap (λ ys. is_some (cond (leb 1 j) (get_or ys (j - 1) None) None)) moved.slots
-    ∙ ap (λ o. is_some (cond (leb 1 j) o None)) (at_moved a z 1 r.slots (j - 1))
+    ∙ ap (λ o. is_some (cond (leb 1 j) o None)) (at_slot a z r.slots (j - 1))
     ∙ under (leb 1 j)
   where
-    under : (b : Bool) → is_some (cond b (moved_slot a z (1 + (j - 1)) (get_or r.slots (j - 1) None)) None) ≡ is_some (cond b (get_or r.slots (j - 1) None) None)
-    under true = slot_used a z (1 + (j - 1)) (get_or r.slots (j - 1) None)
+    under : (b : Bool) → is_some (cond b (moved_slot a z (suc (j - 1)) (get_or r.slots (j - 1) None)) None) ≡ is_some (cond b (get_or r.slots (j - 1) None) None)
+    under true = slot_used a z (suc (j - 1)) (get_or r.slots (j - 1) None)
     under false = refl
 
 positive : (z : ℤ) (v w : ℕ) → Balanced z v w → 1 ≤ v → 1 ≤ w
@@ -52,9 +52,6 @@ module _ (xs : Slots) (out : Operand) (a : ℕ) (z : ℤ) (keeps : KeepsRow xs o
   abbrev ys : Slots
   ys = moved_from a z 1 xs
 
-  at_place : (k : ℕ) → get_or ys k None ≡ moved_slot a z (suc k) (get_or xs k None)
-  at_place k = at_moved a z 1 xs k ∙ ap (λ n. moved_slot a z n (get_or xs k None)) (let p : 1 + k ≡ suc k = omega arith in p)
-
   -- every value but that of the moved adder stays
   pub stays : (j : ℕ) → j ≢ a → j ≤ length xs → value ys j ≡ value xs j
   stays = (moving_scales a z xs one keeps.adders whole).others
@@ -74,7 +71,7 @@ module _ (xs : Slots) (out : Operand) (a : ℕ) (z : ℤ) (keeps : KeepsRow xs o
   -- what the output reads it reads still, and nothing else
   reads_still : (j : ℕ) → Reads xs out.source j → Reads ys out.source j
   reads_still j directly = directly
-  reads_still j (through {k = k} r e has) = through (reads_still (suc k) r) (at_place k ∙ ap (moved_slot a z (suc k)) e) has
+  reads_still j (through {k = k} r e has) = through (reads_still (suc k) r) (at_slot a z xs k ∙ ap (moved_slot a z (suc k)) e) has
 
   record Came (k : ℕ) (y : Adder) : Type 0 where
     from : Adder
@@ -82,15 +79,15 @@ module _ (xs : Slots) (out : Operand) (a : ℕ) (z : ℤ) (keeps : KeepsRow xs o
     moved : moved_adder a z (suc k) from ≡ y
 
   came : (k : ℕ) (y : Adder) (o : Option Adder) → get_or xs k None ≡ o → get_or ys k None ≡ Some y → Came k y
-  came k y None e f = absurd (some_none (sym f ∙ at_place k ∙ ap (moved_slot a z (suc k)) e))
-  came k y (Some x) e f = let p = sym (at_place k ∙ ap (moved_slot a z (suc k)) e) ∙ f in record { from = x; there = e; moved = cc }
+  came k y None e f = absurd (some_none (sym f ∙ at_slot a z xs k ∙ ap (moved_slot a z (suc k)) e))
+  came k y (Some x) e f = let p = sym (at_slot a z xs k ∙ ap (moved_slot a z (suc k)) e) ∙ f in record { from = x; there = e; moved = cc }
 
   read_before : (j : ℕ) → Reads ys out.source j → Reads xs out.source j
   read_before j directly = directly
   read_before j (through {k = k} {a = y} r e has) = let c = came k y (get_or xs k None) refl e in through (read_before (suc k) r) c.there (subst (λ x. HasSource x j) (sym c.moved) has)
 
   used_same : (k : ℕ) → is_some (get_or ys k None) ≡ is_some (get_or xs k None)
-  used_same k = ap is_some (at_place k) ∙ slot_used a z (suc k) (get_or xs k None)
+  used_same k = ap is_some (at_slot a z xs k) ∙ slot_used a z (suc k) (get_or xs k None)
 
   -- the moved adder's value is bounded by what reads it
   bounded : (j : ℕ) → Reads xs out.source j → j ≡ a → value ys j ≤ 2147483647
