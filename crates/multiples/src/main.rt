@@ -14,12 +14,10 @@ use std::io::{BufRead, BufReader};
 fn main(rt: HostRuntime) -> io::Result<()> {
     let heap = rt.alloc();
     let mut lines = BufReader::new(heap, rt.stdin())?.split(heap, b'\n');
-    let chain = match lines.next() {
-        Some(line) => Chain::read(line?.as_slice()),
-        // the chain line is missing
-        None => Err(Refusal::BrokenForm(0)),
-    };
-    let chain = match chain {
+    // a line that is missing breaks its form where it would begin
+    let missing = Refusal::BrokenForm(0);
+    let line = lines.next().transpose()?;
+    let chain = match line.map_or(Err(missing), |line| Chain::read(line.as_slice())) {
         Ok(chain) => chain,
         Err(refusal) => return rt.println(refusal.at_line(1)),
     };

@@ -12,29 +12,20 @@ use std::io;
 use std::io::{BufRead, BufReader};
 use trial::Trial;
 
-// A whole number, or why the line is none.
-fn read_number(line: &[u8]) -> Result<i64, Refusal> {
-    Ok(read_integer(line)?)
-}
-
 fn main(rt: HostRuntime) -> io::Result<()> {
     let heap = rt.alloc();
     let mut lines = BufReader::new(heap, rt.stdin())?.split(heap, b'\n');
-    let chain = match lines.next() {
-        Some(line) => Chain::read(line?.as_slice()),
-        // the chain line is missing
-        None => Err(Refusal::BrokenForm(0)),
-    };
-    let chain = match chain {
+    // a line that is missing breaks its form where it would begin
+    let missing = Refusal::BrokenForm(0);
+    let line = lines.next().transpose()?;
+    let chain = match line.map_or(Err(missing), |line| Chain::read(line.as_slice())) {
         Ok(chain) => chain,
         Err(refusal) => return rt.println(refusal.at_line(1)),
     };
     let mut numbers = [0i64; 3];
     for (i, number) in numbers.iter_mut().enumerate() {
-        let read = match lines.next() {
-            Some(line) => read_number(line?.as_slice()),
-            None => Err(Refusal::BrokenForm(0)),
-        };
+        let line = lines.next().transpose()?;
+        let read = line.map_or(Err(missing), |line| Ok(read_integer(line.as_slice())?));
         match read {
             Ok(n) => *number = n,
             Err(refusal) => return rt.println(refusal.at_line(i + 2)),
@@ -50,9 +41,9 @@ fn main(rt: HostRuntime) -> io::Result<()> {
         rt.println(refusal.at_line(line_of(refusal)))?;
     }
     for (line, number) in lines.zip(5..) {
-        match read_number(line?.as_slice()) {
+        match read_integer(line?.as_slice()) {
             Ok(sample) => rt.println(trial.products(sample))?,
-            Err(refusal) => rt.println(refusal.at_line(number))?,
+            Err(error) => rt.println(Refusal::from(error).at_line(number))?,
         }
     }
     Ok(())

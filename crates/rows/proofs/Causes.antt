@@ -32,9 +32,6 @@ module _ (r : Row) (a : ℕ) (z : ℤ) (x : Adder) (used : adder_at r a ≡ Some
   abbrev from_readers : List Rule
   from_readers = shift_rules_from a z 1 r.slots ++ from_output
 
-  pub by_own : (e : Refusal) → first_broken (slot_shift_rules a z a (Some x)) ≡ Some e → first_broken (limit_rules r a z) ≡ Some e
-  by_own e h = broken_first (slot_shift_rules a z a (adder_at r a)) from_readers e (subst (λ o. first_broken (slot_shift_rules a z a o) ≡ Some e) (sym used) h)
-
   -- the number of the adder, as the code has it
   module _ (n : ℕ) (is : n ≡ a) (own : first_broken (slot_shift_rules a z n (Some x)) ≡ None) where
     past_own : first_broken (limit_rules r a z) ≡ first_broken from_readers
