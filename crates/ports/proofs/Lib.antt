@@ -1,0 +1,3 @@
+mod Ascending
+mod Inserting
+mod Places

@@ -1,0 +1,3 @@
+pub mod Ports
+pub mod Inputs
+pub mod InputLaws
