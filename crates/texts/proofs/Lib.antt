@@ -1,0 +1,4 @@
+mod Skips
+pub mod Listed
+pub mod Takes
+pub mod Following

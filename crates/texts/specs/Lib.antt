@@ -1,0 +1,4 @@
+pub mod Text
+pub mod Steps
+pub mod Pieces
+pub mod Listings

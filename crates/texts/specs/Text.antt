@@ -1,0 +1,81 @@
+-- The text of a wiring sheet, piece by piece, as bytes.
+--   46 is a dot, 32 a space, 10 a line feed, 43 plus, 45 minus, 61 an equals sign, 115 an s
+use Rattle.std.specs.Prelude.{ℕ, ◌+◌, ◌/◌, ◌%◌, ◌≤◌, List, [], ◌∷◌, ◌++◌, Some, None, Option, codes, nat_lt, if◌then◌else◌}
+use Rattle.adders.specs.declared.wiring.Operand.{Operand}
+use Rattle.adders.specs.declared.wiring.Sign.{Sign}
+use Rattle.adders.specs.declared.wiring.Sign.TheVariants.{Plus, Minus}
+use Rattle.ports.specs.declared.port.Port.{Port}
+use Rattle.ports.specs.declared.port.Port.TheVariants.{Left, Right, Output}
+use Rattle.texts.specs.declared.selection.Selection.{Selection}
+
+-- a number up to 99: one or two digits, no leading zero
+abbrev pub number : ℕ → List ℕ
+number n = if nat_lt n 10 then (48 + n) ∷ [] else (48 + n / 10) ∷ (48 + n % 10) ∷ []
+
+-- a key, a number and a line feed
+abbrev pub number_line : List ℕ → ℕ → List ℕ
+number_line key n = key ++ (number n ++ 10 ∷ [])
+
+-- an operand is source, dot, shift
+abbrev pub operand : Operand → List ℕ
+operand o = number o.source ++ 46 ∷ number o.shift
+
+-- inputs that follow another, each after one space
+abbrev pub more_inputs : List Operand → List ℕ
+more_inputs [] = []
+more_inputs (o ∷ os) = 32 ∷ (operand o ++ more_inputs os)
+
+-- the inputs of a port, parted by one space
+abbrev pub input_list : List Operand → List ℕ
+input_list [] = []
+input_list (o ∷ os) = operand o ++ more_inputs os
+
+-- 1L=, 1R=, 2L= and so on, out=
+abbrev pub port_key : Port → List ℕ
+port_key (Left j) = number j ++ codes "L="
+port_key (Right j) = number j ++ codes "R="
+port_key Output = codes "out="
+
+abbrev pub port_line : Port → List Operand → List ℕ
+port_line p os = port_key p ++ (input_list os ++ 10 ∷ [])
+
+abbrev pub mark : Sign → ℕ
+mark Plus = 43
+mark Minus = 45
+
+-- an adder in a code line: the left input's number, the sign and the right input's number, or a minus where the code does not use it; a space after it
+abbrev pub entry : Option Selection → List ℕ
+entry None = 45 ∷ 32 ∷ []
+entry (Some s) = number s.left ++ (mark s.sign ∷ (number s.right ++ 32 ∷ []))
+
+abbrev pub entries : List (Option Selection) → List ℕ
+entries [] = []
+entries (x ∷ xs) = entry x ++ entries xs
+
+-- s, the code's two digits, =
+abbrev pub code_key : ℕ → List ℕ
+code_key c = 115 ∷ (48 + c / 10) ∷ (48 + c % 10) ∷ 61 ∷ []
+
+-- what follows it: an entry for each adder, and the number of the output's input
+abbrev pub selections : List (Option Selection) → ℕ → List ℕ
+selections xs out = entries xs ++ (number out ++ 10 ∷ [])
+
+abbrev pub code_line : ℕ → List (Option Selection) → ℕ → List ℕ
+code_line c xs out = code_key c ++ selections xs out
+
+-- What two digits can say.
+
+abbrev pub Small : Operand → Type 0
+Small o = (o.source ≤ 99) × (o.shift ≤ 99)
+
+abbrev pub AllSmall : List Operand → Type 0
+AllSmall [] = Unit {0}
+AllSmall (o ∷ os) = Small o × AllSmall os
+
+abbrev pub SmallEntry : Option Selection → Type 0
+SmallEntry None = Unit {0}
+SmallEntry (Some s) = (s.left ≤ 99) × (s.right ≤ 99)
+
+abbrev pub AllSmallEntries : List (Option Selection) → Type 0
+AllSmallEntries [] = Unit {0}
+AllSmallEntries (x ∷ xs) = SmallEntry x × AllSmallEntries xs
