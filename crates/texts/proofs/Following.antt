@@ -7,12 +7,12 @@ use Rattle.texts.specs.Pieces.{skip, if_next, operand_at, more_within, more_at}
 use Rattle.texts.specs.Listings.{Lists, ListingRead}
 use Rattle.texts.proofs.Takes.{operand_shorter, skip_shorter}
 
-abbrev pub with_front : List Operand → Read (List Operand) → Read (List Operand)
+abbrev pub with_front : {A : Type 0} → List A → Read (List A) → Read (List A)
 with_front done None = None
 with_front done (Some os) = Some (done ++ os.0, os.1)
 
--- one input and those after it
-abbrev one_more : Operand × List ℕ → Read (List Operand) → Read (List Operand)
+-- one more before those after it
+abbrev pub one_more : {A : Type 0} → A × List ℕ → Read (List A) → Read (List A)
 one_more o r = r >>= λ os. Some (o.0 ∷ os.0, os.1)
 
 -- any number that is enough gives the same
@@ -52,7 +52,7 @@ more_then text rest o e f =
     ∙ ap (one_more o) (enough (length text) (suc (length o.1)) o.1 (omega arith) (omega arith))
 
 -- one more turn
-pub regrouped : (done : List Operand) (o : Operand × List ℕ) (r : Read (List Operand)) → with_front (done ++ o.0 ∷ []) r ≡ with_front done (one_more o r)
+pub regrouped : {A : Type 0} (done : List A) (o : A × List ℕ) (r : Read (List A)) → with_front (done ++ o.0 ∷ []) r ≡ with_front done (one_more o r)
 regrouped done o None = refl
 regrouped done o (Some os) = ap (λ l. Some (l, os.1)) (append_assoc done (o.0 ∷ []) os.0)
 

@@ -2,3 +2,6 @@ mod Skips
 pub mod Listed
 pub mod Takes
 pub mod Following
+pub mod Again
+pub mod Entering
+pub mod Lines

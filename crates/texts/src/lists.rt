@@ -1,13 +1,15 @@
 // Reading the lists of a sheet: the inputs of a port, and what a code selects at each adder.
-ghost use Rattle.std.specs.Prelude.{◌≡◌, List, option_map, ◌∷◌};
+ghost use Rattle.std.specs.Prelude.{◌≡◌, List, option_map, ◌∷◌, ◌≤◌};
 ghost use Rattle.adders.specs.declared.wiring.Operand.{Operand};
 ghost use Rattle.texts.specs.Steps.{read_of, Read};
-ghost use Rattle.texts.specs.Pieces.{side_at, port_key_at, more_at, input_list_at, port_line_at};
+ghost use Rattle.texts.specs.Pieces.{side_at, port_key_at, more_at, input_list_at, port_line_at, entries_at, selections_at};
+ghost use Rattle.texts.specs.Listings.{with_room, as_selections};
 ghost use Rattle.texts.specs.Listings.{ListingRead, with_first};
 
 use crate::keys;
 use crate::listing::Listing;
-use crate::pieces::{number, operand, skip};
+use crate::pieces::{entry, number, operand, skip};
+use crate::selection::{Selection, Selections};
 use adders::Operand;
 use ports::Port;
 
@@ -70,4 +72,31 @@ pub fn port_line(text: &[u8], port: Port) -> Option<(Listing, &[u8])>
     ensures { ListingRead (read_of result) (port_line_at port text.now) }
 {
     input_list(port_key(text, port)?)
+}
+
+// The entries of so many adders.
+fn entries(text: &[u8], count: usize) -> Option<([Option<Selection>; 8], &[u8])>
+    requires { count ≤ 8 }
+    ensures { read_of result ≡ with_room (entries_at count text.now) }
+{
+    let mut entries = [None; 8];
+    let mut rest = text;
+    for place in 0..count {
+        let (next, after) = entry(rest)?;
+        entries[place] = next;
+        rest = after;
+    }
+    Some((entries, rest))
+}
+
+// What a code line has after its key, in a block of so many adders.
+#[tactic(auto, unfolding(crate::specs::Pieces::selections_at))]
+pub fn selections(text: &[u8], count: usize) -> Option<(Selections, &[u8])>
+    requires { count ≤ 8 }
+    ensures { read_of result ≡ as_selections (selections_at count text.now) }
+{
+    let (adders, rest) = entries(text, count)?;
+    let (output, rest) = number(rest)?;
+    let rest = skip(rest, keys::LINE_FEED)?;
+    Some((Selections { adders, output }, rest))
 }
