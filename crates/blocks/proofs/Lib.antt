@@ -5,3 +5,4 @@ pub mod Runs
 pub mod Same
 pub mod Examples
 pub mod Movable
+pub mod Fills

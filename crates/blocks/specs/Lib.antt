@@ -4,3 +4,4 @@ pub mod Calls
 pub mod Books
 pub mod Runs
 pub mod Examples
+pub mod Filling

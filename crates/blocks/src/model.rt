@@ -6,6 +6,7 @@ use rows::Row;
 use tables::Table;
 
 pub mod calls;
+pub mod filling;
 pub mod runs;
 
 // How many adders it has, how many bits a sample, and the row of each live code. No row uses an adder that it has not.

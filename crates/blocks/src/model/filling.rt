@@ -1,0 +1,69 @@
+// Building a block row by row.
+ghost use Rattle.std.specs.Prelude.{◌≡◌, Some};
+ghost use Rattle.adders.specs.Rules.{Answered, Changed};
+ghost use Rattle.blocks.specs.Blocks.{Rewritten};
+ghost use Rattle.blocks.specs.Filling.{Bare, size_rules, filling_rules, uses_none_past};
+
+use super::Block;
+use adders::Refusal;
+use rows::Row;
+use tables::Table;
+
+const MOST_ADDERS: usize = 8;
+
+const MOST_BITS: usize = 32;
+
+impl Block {
+    // A block of so many adders, for samples of so many bits, without a live code.
+    pub fn bare(adders: usize, width: usize) -> Result<Block, Refusal>
+        ensures { Answered (size_rules adders width) (λ b. Bare adders width b) result }
+    {
+        if adders > MOST_ADDERS {
+            return Err(Refusal::TooManyAdders);
+        }
+        if !(1..=MOST_BITS).contains(&width) {
+            return Err(Refusal::WidthOutOfRange);
+        }
+        Ok(Block {
+            adders: adders as u8,
+            width: width as u8,
+            table: Table::new(),
+        })
+    }
+
+    // Whether a row uses the block's adders alone.
+    fn has_adders_of(&self, row: &Row) -> bool
+        ensures { result ≡ uses_none_past self.now.adders row.now }
+    {
+        let slots = row.slots();
+        for slot in &slots[self.adders as usize..] {
+            if slot.is_some() {
+                return false;
+            }
+        }
+        true
+    }
+
+    // Puts a row at an idle code.
+    pub fn fill(&mut self, code: usize, row: Row) -> Result<(), Refusal>
+        ensures { Changed (filling_rules self.old code row) self.old (λ _ after. Rewritten self.old code (Some row) after) result self.new }
+    {
+        if code > 15 {
+            return Err(Refusal::CodeAboveFifteen);
+        }
+        if self.row(code).is_ok() {
+            return Err(Refusal::CodeLive);
+        }
+        if !self.has_adders_of(&row) {
+            return Err(Refusal::BlockTooSmall);
+        }
+        let mut table = self.table;
+        table.put(code, row)?;
+        *self = Block {
+            adders: self.adders,
+            width: self.width,
+            table,
+        };
+        Ok(())
+    }
+}
