@@ -1,5 +1,8 @@
 // The fixed bytes of a sheet, which its readers compare and its writer writes.
 
+ghost use Rattle.std.specs.Prelude.{◌≡◌, ◌≤◌};
+ghost use Rattle.texts.specs.Text.{code_key};
+
 pub const ADDERS: &[u8] = b"adders=";
 
 pub const WIDTH: &[u8] = b"width=";
@@ -22,3 +25,15 @@ pub const MINUS: &[u8] = b"-";
 
 // What stands for an adder that a row does not use.
 pub const UNUSED: &[u8] = b"- ";
+
+// The key of a code's line: s, the code's two digits, =.
+pub fn of_code(code: usize) -> [u8; 4]
+    ensures { code ≤ 99 → result ≡ code_key code }
+{
+    [
+        b's',
+        b'0' + (code / 10 % 10) as u8,
+        b'0' + (code % 10) as u8,
+        b'=',
+    ]
+}

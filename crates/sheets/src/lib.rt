@@ -1,0 +1,7 @@
+// The wiring sheet of a block: read, judged and written.
+#![tactic(auto)]
+
+mod codes;
+mod limits;
+mod lists;
+mod reader;
