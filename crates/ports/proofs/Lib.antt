@@ -1,3 +1,3 @@
-mod Ascending
+pub mod Ascending
 mod Inserting
 mod Places

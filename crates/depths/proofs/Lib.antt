@@ -1,0 +1,5 @@
+mod Levels
+mod Sources
+mod Deepest
+mod Rounds
+mod Rules
