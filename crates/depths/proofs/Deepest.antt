@@ -1,5 +1,5 @@
 -- The deepest source of a list of inputs.
-use Rattle.std.proofs.Common.{◌≡◌, ℕ, ◌+◌, ◌<◌, ◌≤◌, max, List, [], ◌∷◌, length, refl, sym, ap, ◌∙◌, subst, inl, inr, ⊎_elim, arith}
+use Rattle.std.proofs.Common.{◌≡◌, ◌≢◌, ℕ, ◌+◌, ◌<◌, ◌≤◌, max, List, [], ◌∷◌, length, refl, sym, ap, ◌∙◌, subst, inl, inr, ⊎_elim, arith}
 use Rattle.std.proofs.lemmas.Bool.{cases_lt}
 use Rattle.adders.specs.declared.wiring.Operand.{Operand}
 use Rattle.ports.specs.Inputs.{Among}
@@ -52,3 +52,11 @@ any_there o (x ∷ xs) n h = refl
 pub any_never : (os : List Operand) (n : ℕ) → ((o : Operand) → Among o os → ⊥) → if_any os n ≡ 0
 any_never [] n h = refl
 any_never (o ∷ os) n h = absurd (h o (inl refl))
+
+pub any_none : (os : List Operand) (n : ℕ) → length os ≡ 0 → if_any os n ≡ 0
+any_none [] n h = refl
+any_none (o ∷ os) n h = absurd (omega arith)
+
+pub any_some : (os : List Operand) (n : ℕ) → length os ≢ 0 → if_any os n ≡ n
+any_some [] n h = absurd (h refl)
+any_some (o ∷ os) n h = refl

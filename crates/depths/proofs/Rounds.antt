@@ -1,5 +1,5 @@
 -- Eight rounds are enough for every adder, and more change nothing.
-use Rattle.std.proofs.Common.{◌≡◌, ℕ, zero, suc, ◌+◌, ◌*◌, ◌<◌, ◌≤◌, max, List, [], ◌∷◌, length, refl, sym, ap, ◌∙◌, subst, inl, inr, arith}
+use Rattle.std.proofs.Common.{◌≡◌, ◌≢◌, ℕ, zero, suc, ◌+◌, ◌*◌, ◌<◌, ◌≤◌, max, List, [], ◌∷◌, length, refl, sym, ap, ◌∙◌, subst, inl, inr, arith}
 use Rattle.std.proofs.lemmas.Bool.{cases_lt}
 use Rattle.adders.specs.declared.wiring.Operand.{Operand}
 use Rattle.blocks.specs.declared.model.Block.{Block}
@@ -9,7 +9,7 @@ use Rattle.ports.specs.Inputs.{inputs, Among}
 use Rattle.ports.proofs.Ascending.{inputs_law}
 use Rattle.depths.specs.Depths.{inputs_depth, if_any, adder_depth_within, adder_depth, port_depth}
 use Rattle.depths.proofs.Sources.{rank, input_low}
-use Rattle.depths.proofs.Deepest.{depth_same, depth_few, any_at_most, any_never}
+use Rattle.depths.proofs.Deepest.{depth_same, depth_few, any_at_most, any_never, any_none, any_some}
 
 module _ (b : Block) where
   -- what an adder's depth is, from its sources' depths
@@ -56,3 +56,9 @@ module _ (b : Block) where
         | inl l ↦ sources_same (adder_depth_within 7 b) (adder_depth_within 8 b) (suc j) (λ s k. rounds_same 7 8 s (omega arith) (omega arith))
         | inr l ↦ none_past (adder_depth_within 7 b) (suc j) (omega arith) ∙ sym (none_past (adder_depth_within 8 b) (suc j) (omega arith))
       ]
+
+  pub unused_is : (j : ℕ) → length (inputs b (Left j)) ≡ 0 → 0 ≡ adder_depth b j
+  unused_is j h = sym (adder_is j ∙ any_none (inputs b (Left j)) _ h)
+
+  pub used_is : (j : ℕ) → length (inputs b (Left j)) ≢ 0 → 1 + max (port_depth b (Left j)) (port_depth b (Right j)) ≡ adder_depth b j
+  used_is j h = sym (adder_is j ∙ any_some (inputs b (Left j)) _ h)
