@@ -1,15 +1,15 @@
 -- Eight rounds are enough for every adder, and more change nothing.
-use Rattle.std.proofs.Common.{◌≡◌, ◌≢◌, ℕ, zero, suc, ◌+◌, ◌*◌, ◌<◌, ◌≤◌, max, List, [], ◌∷◌, length, refl, sym, ap, ◌∙◌, subst, inl, inr, arith}
+use Rattle.std.proofs.Common.{◌≡◌, ◌≢◌, ℕ, zero, suc, ◌+◌, ◌*◌, ◌<◌, ◌≤◌, max, List, length, refl, sym, ◌∙◌, inl, inr, arith}
 use Rattle.std.proofs.lemmas.Bool.{cases_lt}
 use Rattle.adders.specs.declared.wiring.Operand.{Operand}
 use Rattle.blocks.specs.declared.model.Block.{Block}
 use Rattle.ports.specs.declared.port.Port.{Port}
-use Rattle.ports.specs.declared.port.Port.TheVariants.{Left, Right, Output}
-use Rattle.ports.specs.Inputs.{inputs, Among}
+use Rattle.ports.specs.declared.port.Port.TheVariants.{Left, Right}
+use Rattle.ports.specs.Inputs.{inputs}
 use Rattle.ports.proofs.Ascending.{inputs_law}
-use Rattle.depths.specs.Depths.{inputs_depth, if_any, adder_depth_within, adder_depth, port_depth}
-use Rattle.depths.proofs.Sources.{rank, input_low}
-use Rattle.depths.proofs.Deepest.{depth_same, depth_few, any_at_most, any_never, any_none, any_some}
+use Rattle.depths.specs.Depths.{deepest, inputs_depth, if_any, adder_depth_within, adder_depth, port_depth}
+use Rattle.depths.proofs.Sources.{input_low}
+use Rattle.depths.proofs.Deepest.{deepest_most, depth_same, depth_few, any_at_most, any_never, any_none, any_some}
 
 module _ (b : Block) where
   -- what an adder's depth is, from its sources' depths
@@ -57,8 +57,11 @@ module _ (b : Block) where
         | inr l ↦ none_past (adder_depth_within 7 b) (suc j) (omega arith) ∙ sym (none_past (adder_depth_within 8 b) (suc j) (omega arith))
       ]
 
-  pub unused_is : (j : ℕ) → length (inputs b (Left j)) ≡ 0 → 0 ≡ adder_depth b j
-  unused_is j h = sym (adder_is j ∙ any_none (inputs b (Left j)) _ h)
+  pub unused_is : (j : ℕ) → length (inputs b (Left j)) ≡ 0 → adder_depth b j ≡ 0
+  unused_is j h = adder_is j ∙ any_none (inputs b (Left j)) _ h
 
-  pub used_is : (j : ℕ) → length (inputs b (Left j)) ≢ 0 → 1 + max (port_depth b (Left j)) (port_depth b (Right j)) ≡ adder_depth b j
-  used_is j h = sym (adder_is j ∙ any_some (inputs b (Left j)) _ h)
+  pub used_is : (j : ℕ) → length (inputs b (Left j)) ≢ 0 → adder_depth b j ≡ 1 + max (port_depth b (Left j)) (port_depth b (Right j))
+  used_is j h = adder_is j ∙ any_some (inputs b (Left j)) _ h
+
+  pub deepest_few : (os : List Operand) → deepest (adder_depth b) os ≤ 40
+  deepest_few os = deepest_most (adder_depth b) 40 os (λ o _. depths_few o.source)

@@ -1,5 +1,5 @@
 -- The depths follow their rules, and no others do.
-use Rattle.std.proofs.Common.{◌≡◌, ℕ, zero, suc, ◌+◌, ◌<◌, ◌≤◌, max, true, List, [], ◌∷◌, length, is_some, Some, None, Option, refl, sym, ap, ◌∙◌, subst, inl, inr, arith}
+use Rattle.std.proofs.Common.{◌≡◌, ℕ, zero, suc, ◌+◌, ◌<◌, max, true, List, [], ◌∷◌, length, is_some, Some, None, Option, refl, sym, ap, ◌∙◌, subst, inl, arith}
 use Rattle.std.proofs.lemmas.Bool.{false≢true}
 use Rattle.adders.specs.declared.wiring.Adder.{Adder}
 use Rattle.adders.specs.declared.wiring.Operand.{Operand}
@@ -10,14 +10,14 @@ use Rattle.blocks.specs.declared.model.Block.{Block}
 use Rattle.blocks.specs.Blocks.{row_of}
 use Rattle.blocks.specs.Uses.{row_uses}
 use Rattle.ports.specs.declared.port.Port.{Port}
-use Rattle.ports.specs.declared.port.Port.TheVariants.{Left, Right, Output}
+use Rattle.ports.specs.declared.port.Port.TheVariants.{Left, Right}
 use Rattle.ports.specs.Ports.{left_of, put_at}
 use Rattle.ports.specs.Inputs.{inputs, Among}
 use Rattle.ports.proofs.Ascending.{inputs_law}
 use Rattle.depths.specs.Depths.{levels, deepest, inputs_depth, if_any, adder_depth, port_depth}
 use Rattle.depths.specs.DepthLaws.{IsUsed, IsDeepest, FollowsRules, DepthsFollow}
 use Rattle.depths.proofs.Sources.{input_low}
-use Rattle.depths.proofs.Deepest.{depth_same, deepest_same, deepest_most, deepest_over, deepest_reached, depth_is, any_there, any_never}
+use Rattle.depths.proofs.Deepest.{depth_same, deepest_most, deepest_over, deepest_reached, depth_is, any_there, any_never}
 use Rattle.depths.proofs.Rounds.{from_sources, sources_same, adder_is}
 
 -- an adder that a row uses has its left operand there

@@ -1,16 +1,16 @@
 -- Sources are lower than what reads them, since every row keeps that.
-use Rattle.std.proofs.Common.{◌≡◌, ℕ, zero, suc, ◌-◌, ◌+◌, ◌<◌, ◌≤◌, List, [], ◌∷◌, length, get_or, Some, None, Option, refl, sym, ap, ◌∙◌, subst, inl, inr, arith}
+use Rattle.std.proofs.Common.{◌≡◌, ℕ, zero, suc, ◌-◌, ◌<◌, ◌≤◌, List, [], ◌∷◌, length, get_or, Some, None, Option, refl, sym, subst, inl, inr, arith}
 use Rattle.adders.specs.declared.wiring.Adder.{Adder}
 use Rattle.adders.specs.declared.wiring.Operand.{Operand}
 use Rattle.adders.proofs.Broken.{some_none}
 use Rattle.rows.specs.declared.model.Row.{Row}
 use Rattle.rows.specs.Rows.{adder_at}
-use Rattle.rows.proofs.Answering.{There, there, row_keeps}
+use Rattle.rows.proofs.Answering.{there, row_keeps}
 use Rattle.blocks.specs.declared.model.Block.{Block}
 use Rattle.blocks.specs.Blocks.{row_of}
 use Rattle.ports.specs.declared.port.Port.{Port}
 use Rattle.ports.specs.declared.port.Port.TheVariants.{Left, Right, Output}
-use Rattle.ports.specs.Ports.{left_of, right_of, operand_at, put_at}
+use Rattle.ports.specs.Ports.{left_of, right_of, put_at}
 use Rattle.ports.specs.Inputs.{inputs, Among}
 use Rattle.ports.proofs.Ascending.{inputs_law}
 

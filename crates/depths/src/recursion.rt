@@ -14,6 +14,7 @@ pub fn depth(block: &Block) -> usize
 
 // The depth of an adder: one more than its deeper port's. The sample and an adder that no row uses have no inputs.
 #[cycle(depths)]
+#[tactic(auto, using(crate::proofs::Rounds::unused_is, crate::proofs::Rounds::used_is, crate::proofs::Rounds::port_few))]
 pub fn adder_depth(block: &Block, adder: usize) -> usize
     ensures { result ≡ adder_depth block.now adder }
 {
@@ -27,6 +28,7 @@ pub fn adder_depth(block: &Block, adder: usize) -> usize
 
 // The depth of a port: its multiplexer's levels behind its deepest source.
 #[cycle(depths)]
+#[tactic(auto, using(crate::proofs::Rounds::deepest_few, crate::proofs::Levels::levels_few, crate::proofs::Deepest::depth_is))]
 pub fn port_depth(block: &Block, port: Port) -> usize
     ensures { result ≡ port_depth block.now port }
 {
