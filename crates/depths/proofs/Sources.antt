@@ -2,6 +2,7 @@
 use Rattle.std.proofs.Common.{◌≡◌, ℕ, zero, suc, ◌-◌, ◌<◌, ◌≤◌, List, [], ◌∷◌, length, get_or, Some, None, Option, refl, sym, subst, inl, inr, arith}
 use Rattle.adders.specs.declared.wiring.Adder.{Adder}
 use Rattle.adders.specs.declared.wiring.Operand.{Operand}
+use Rattle.adders.specs.Values.{spare_operand}
 use Rattle.adders.proofs.Broken.{some_none}
 use Rattle.rows.specs.declared.model.Row.{Row}
 use Rattle.rows.specs.Rows.{adder_at}
@@ -57,7 +58,10 @@ put_low (Some r) Output o e =
 pub input_low : (b : Block) (p : Port) (o : Operand) → Among o (inputs b p) → Low p o
 input_low b p o h = let s = (inputs_law.these b p).only o h in put_low (row_of b s.0) p o s.1
 
-pub among_at : (os : List Operand) (i : ℕ) (spare : Operand) → i < length os → Among (get_or os i spare) os
+among_at : (os : List Operand) (i : ℕ) (spare : Operand) → i < length os → Among (get_or os i spare) os
 among_at [] i spare h = absurd (omega arith)
 among_at (o ∷ os) zero spare h = inl refl
 among_at (o ∷ os) (suc i) spare h = inr (among_at os i spare (omega arith))
+
+pub source_low : (b : Block) (p : Port) (os : List Operand) (i : ℕ) → os ≡ inputs b p → i < length os → (get_or os i spare_operand).source < rank p
+source_low b p os i e h = (input_low b p (get_or os i spare_operand) (subst (Among (get_or os i spare_operand)) e (among_at os i spare_operand h))).lower

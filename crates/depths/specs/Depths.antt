@@ -27,7 +27,7 @@ abbrev pub inputs_depth : (ℕ → ℕ) → List Operand → ℕ
 inputs_depth d [] = 0
 inputs_depth d (o ∷ os) = levels (length (o ∷ os)) + deepest d (o ∷ os)
 
--- nothing where there are no inputs
+-- n, or 0 where there are no inputs
 abbrev pub if_any : List Operand → ℕ → ℕ
 if_any [] n = 0
 if_any (o ∷ os) n = n

@@ -18,7 +18,7 @@ pub fn depth(block: &Block) -> usize
 pub fn adder_depth(block: &Block, adder: usize) -> usize
     ensures { result ≡ adder_depth block.now adder }
 {
-    if Port::Left(adder).inputs(block).len() == 0 {
+    if Port::Left(adder).inputs(block).as_slice().is_empty() {
         return 0;
     }
     let left = port_depth(block, Port::Left(adder));
@@ -28,17 +28,17 @@ pub fn adder_depth(block: &Block, adder: usize) -> usize
 
 // The depth of a port: its multiplexer's levels behind its deepest source.
 #[cycle(depths)]
-#[tactic(auto, using(crate::proofs::Rounds::deepest_few, crate::proofs::Levels::levels_few, crate::proofs::Deepest::depth_is))]
+#[tactic(auto, using(crate::proofs::Rounds::deepest_few, crate::proofs::Levels::levels_few, crate::proofs::Deepest::depth_is, crate::proofs::Sources::source_low))]
 pub fn port_depth(block: &Block, port: Port) -> usize
     ensures { result ≡ port_depth block.now port }
 {
     let inputs = port.inputs(block);
-    let mut last = None;
+    let mut last_source = None;
     let mut deepest = 0;
     for input in inputs.as_slice() {
         // inputs of one source stand side by side, and its depth is asked for once
-        if last != Some(input.source) {
-            last = Some(input.source);
+        if last_source != Some(input.source) {
+            last_source = Some(input.source);
             deepest = adder_depth(block, input.source as usize).max(deepest);
         }
     }

@@ -14,6 +14,6 @@ decreases-port_depth l = 2 * rank l.port
 abbrev pub invariant-port_depth-loop-input : goal.invariant-port_depth-loop-input
 invariant-port_depth-loop-input l = record {
   whole : max l.deepest (deepest (adder_depth l.block) (drop l.input-index l.input-items)) ≡ deepest (adder_depth l.block) (inputs l.block l.fn.port);
-  asked : (s : ℕ) → l.last ≡ Some s → adder_depth l.block s ≤ l.deepest;
+  asked : (s : ℕ) → l.last_source ≡ Some s → adder_depth l.block s ≤ l.deepest;
   items : l.input-items ≡ inputs l.block l.fn.port;
 }
