@@ -1,5 +1,5 @@
-mod Levels
-mod Sources
-mod Deepest
-mod Rounds
-mod Rules
+pub mod Levels
+pub mod Sources
+pub mod Deepest
+pub mod Rounds
+pub mod Rules
