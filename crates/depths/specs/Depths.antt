@@ -44,8 +44,10 @@ adder_depth_within (suc rounds) b (suc j) =
 unfoldable pub adder_depth : Block → ℕ → ℕ
 adder_depth b j = adder_depth_within 8 b j
 
+-- 0 without inputs
 abbrev pub port_depth : Block → Port → ℕ
 port_depth b p = inputs_depth (adder_depth b) (inputs b p)
 
+-- that of its output
 abbrev pub block_depth : Block → ℕ
 block_depth b = port_depth b Output
