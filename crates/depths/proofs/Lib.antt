@@ -1,0 +1,5 @@
+pub mod Levels
+pub mod Sources
+pub mod Deepest
+pub mod Rounds
+pub mod Rules

@@ -1,0 +1,8 @@
+// Depths: how many adders and two-way multiplexers stand one behind the other.
+#![tactic(auto)]
+
+mod laws;
+mod recursion;
+
+pub use laws::{depths_follow_their_rules, levels_are_least};
+pub use recursion::{adder_depth, depth, port_depth};
