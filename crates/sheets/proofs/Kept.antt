@@ -1,7 +1,6 @@
 -- The lists of the ports.
-use Rattle.std.proofs.Common.{◌≡◌, ℕ, zero, suc, List, [], ◌∷◌, replicate, get_or, sym, refl, ap, ◌∙◌}
+use Rattle.std.proofs.Common.{◌≡◌, ℕ, zero, suc, List, [], replicate, get_or, refl, ap, ◌∙◌}
 use Rattle.adders.specs.declared.wiring.Operand.{Operand}
-use Rattle.ports.specs.declared.port.Port.{Port}
 use Rattle.sheets.specs.declared.lists.PortLists.{PortLists}
 use Rattle.sheets.specs.Orders.{lists_of, place_of, no_lines}
 

@@ -6,3 +6,4 @@ pub mod Slotted
 pub mod RowRules
 pub mod Staged
 pub mod RowByRow
+pub mod Selected

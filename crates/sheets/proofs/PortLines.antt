@@ -1,10 +1,9 @@
 -- The line of a port, from what is kept of it.
-use Rattle.std.proofs.Common.{◌≡◌, ℕ, ◌<◌, ◌≤◌, Bool, true, false, cond, leb, not, ◌&&◌, List, length, take, Some, None, Option, Ok, Err, Result, sym, refl, ap, ◌∙◌, subst, arith}
+use Rattle.std.proofs.Common.{◌≡◌, ℕ, ◌≤◌, true, false, not, ◌&&◌, List, length, Some, None, Ok, Err, sym, refl, ap, ◌∙◌}
 use Rattle.std.specs.List.{list_all}
 use Rattle.std.proofs.lemmas.List.{take_all}
 use Rattle.std.proofs.lemmas.Bool.{ltb-true, ltb-false, lt-leb, le-leb}
 use Rattle.adders.specs.declared.wiring.Operand.{Operand}
-use Rattle.adders.specs.declared.refusals.Refusal.{Refusal}
 use Rattle.adders.specs.declared.refusals.Refusal.TheVariants.{SheetForm, SheetLimit, InputRepeated}
 use Rattle.ports.specs.declared.port.Port.{Port}
 use Rattle.texts.specs.declared.listing.Listing.{Listing}

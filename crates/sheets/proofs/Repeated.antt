@@ -1,5 +1,5 @@
 -- Inputs that come twice.
-use Rattle.std.proofs.Common.{◌≡◌, ◌≢◌, ℕ, zero, suc, ◌<◌, ◌≤◌, Bool, true, false, ◌||◌, List, [], ◌∷◌, length, get_or, is_some, Some, None, Option, refl, ap, ◌∙◌, sym, inl, inr, ⊎_elim, arith}
+use Rattle.std.proofs.Common.{◌≡◌, ◌≢◌, ℕ, zero, suc, ◌<◌, Bool, true, false, ◌||◌, List, [], ◌∷◌, length, get_or, is_some, Some, None, Option, refl, ap, ◌∙◌, sym, inl, inr, ⊎_elim, arith}
 use Rattle.std.specs.List.{list_any}
 use Rattle.std.specs.Prelude.{MatchOption}
 use Rattle.std.proofs.lemmas.Bool.{false≢true}
@@ -7,7 +7,7 @@ use Rattle.adders.specs.declared.wiring.Operand.{Operand}
 use Rattle.adders.specs.Values.{spare_operand}
 use Rattle.ports.specs.Inputs.{same, Among}
 use Rattle.ports.proofs.Ascending.{same_one, same_self}
-use Rattle.sheets.specs.Repeats.{Differ, AllDiffer, FirstRepeat, repeats, Once}
+use Rattle.sheets.specs.Repeats.{AllDiffer, FirstRepeat, repeats, Once}
 
 or_true : (b c : Bool) → c ≡ true → (b || c) ≡ true
 or_true true c e = refl

@@ -1,14 +1,14 @@
 -- The rows of a block that is read, code by code.
-use Rattle.std.proofs.Common.{◌≡◌, ◌≢◌, ℕ, zero, suc, ◌+◌, ◌-◌, ◌*◌, ◌<◌, ◌≤◌, Bool, true, false, not, leb, eqb, ◌&&◌, List, [], ◌∷◌, ◌++◌, length, map, take, drop, replicate, get_or, set, is_some, Some, None, Option, Ok, Err, Result, sym, refl, ap, ◌∙◌, subst, ⊎_elim, append_assoc, append-nil, arith}
+use Rattle.std.proofs.Common.{◌≡◌, ℕ, zero, suc, ◌+◌, ◌-◌, ◌*◌, ◌<◌, ◌≤◌, Bool, true, false, not, leb, eqb, List, [], ◌∷◌, ◌++◌, length, map, take, drop, replicate, get_or, set, is_some, Some, None, Option, Ok, Err, Result, sym, refl, ap, ◌∙◌, subst, ⊎_elim, append_assoc, append-nil, arith}
 use Rattle.std.specs.List.{list_all}
 use Rattle.std.specs.Prelude.{is_none, option_map, slice_get}
 use Rattle.std.proofs.lemmas.List.{length-map, length-set, take_more, take_more_set, take_all, get_or-set_same, get_or-set_other}
-use Rattle.std.proofs.lemmas.Bool.{cases_eq, and_parts, le-leb, eqb-true, false≢true}
+use Rattle.std.proofs.lemmas.Bool.{cases_eq, le-leb, false≢true}
 use Rattle.adders.specs.declared.refusals.Refusal.{Refusal}
-use Rattle.adders.specs.declared.refusals.Refusal.TheVariants.{SheetForm}
+use Rattle.adders.specs.declared.refusals.Refusal.TheVariants.{SheetForm, CodeAboveFifteen, CodeLive, BlockTooSmall}
 use Rattle.adders.specs.declared.wiring.Adder.{Adder}
 use Rattle.adders.specs.Values.{Slots}
-use Rattle.adders.specs.Rules.{first_broken}
+use Rattle.adders.specs.Rules.{rule, first_broken}
 use Rattle.adders.proofs.Places.{same_list}
 use Rattle.adders.proofs.Broken.{some_none}
 use Rattle.rows.specs.declared.model.Row.{Row}
@@ -32,6 +32,9 @@ use Rattle.sheets.proofs.Staged.{RowRead, row_read}
 
 -- A row that is read has no adder past the block's.
 
+abbrev then_rest : Orders → ℕ → List (Option Selection) → Option Adder → Option Slots
+then_rest orders j xs x = texts.◌>>=◌ (slots_of orders (suc j) xs) (λ ys. Some (x ∷ ys))
+
 unused_kept : (orders : Orders) (j n : ℕ) (xs : List (Option Selection)) (slots : Slots) → slots_of orders j xs ≡ Some slots → list_all is_none (drop n xs) ≡ true → list_all is_none (drop n slots) ≡ true
 unfolding slots_of
 unused_kept orders j zero [] slots e h = subst (λ ys. list_all is_none ys ≡ true) (some_is [] slots e) refl
@@ -41,8 +44,8 @@ unused_kept orders j zero (None ∷ xs) slots e h =
     subst (λ ys. list_all is_none ys ≡ true) (some_is (None ∷ a.0) slots a.2) (unused_kept orders (suc j) zero xs a.0 a.1 h)
 unused_kept orders j zero (Some s ∷ xs) slots e h = absurd (false≢true h)
 unused_kept orders j (suc n) (x ∷ xs) slots e h =
-    let a = bind_some _ _ slots e in
-    let b = bind_some _ _ slots a.2 in
+    let a = bind_some (slot_of orders j x) (then_rest orders j xs) slots e in
+    let b = bind_some (slots_of orders (suc j) xs) (λ ys. Some (a.0 ∷ ys)) slots a.2 in
     subst (λ ys. list_all is_none (drop (suc n) ys) ≡ true) (some_is (a.0 ∷ b.0) slots b.2) (unused_kept orders (suc j) n xs b.0 b.1 h)
 
 behind_none : (es : List (Option Selection)) (m : ℕ) → list_all is_none (drop (length es) (es ++ replicate m None)) ≡ true
@@ -99,6 +102,9 @@ rows_filled b after code r lt h = same_list None (rows_of after) (set (rows_of b
         (λ ne. rows_at after k ∙ ap (option_map data_of) (h.others k ne) ∙ sym (rows_at b k) ∙ sym (get_or-set_other (rows_of b) code k (Some (data_of r)) None ne))
         (cases_eq k code)
 
+passes : (x y z : Bool) → x ≡ true → y ≡ true → z ≡ true → first_broken (rule x CodeAboveFifteen ∷ rule y CodeLive ∷ rule z BlockTooSmall ∷ []) ≡ None
+passes x y z e f g = rw (e, f, g) refl
+
 module _ (orders : Orders) (a w : ℕ) (text : List ℕ) (code line : ℕ) (rest : List ℕ) (b : Block) (h : Filled orders a w text code line rest b) where
   module _ (lt : code < 16) where
     one : read_codes orders a (16 - code) code line rest
@@ -120,10 +126,10 @@ module _ (orders : Orders) (a w : ℕ) (text : List ℕ) (code line : ℕ) (rest
       idle = λ k l. h.idle k (omega arith);
       few = omega (arith, h.few);
       whole = ap (λ rows. with_rows rows (read_codes orders a (16 - (code + 1)) (code + 1) line rest)) (take_more (rows_of b) code None (omega (arith, rows_length b)) ∙ ap (λ x. take code (rows_of b) ++ x ∷ []) (rows_at b code ∙ ap (option_map data_of) (h.idle code (omega arith))))
-      ∙ regrouped (take code (rows_of b)) None (read_codes orders a (16 - (code + 1)) (code + 1) line rest)
-      ∙ ap (λ n. with_rows (take code (rows_of b)) (then_row None (read_codes orders a (16 - (code + 1)) n line rest))) (sym next_is)
-      ∙ ap (with_rows (take code (rows_of b))) (sym (one ∙ ap (λ o. if_next o (then_row None (read_codes orders a (16 - (code + 1)) (suc code) line rest)) (λ after. read_row orders a line after >>= λ row. then_row (Some row.0) (read_codes orders a (16 - (code + 1)) (suc code) (suc line) row.1))) e))
-      ∙ h.whole;
+          ∙ regrouped (take code (rows_of b)) None (read_codes orders a (16 - (code + 1)) (code + 1) line rest)
+          ∙ ap (λ n. with_rows (take code (rows_of b)) (then_row None (read_codes orders a (16 - (code + 1)) n line rest))) (sym next_is)
+          ∙ ap (with_rows (take code (rows_of b))) (sym (one ∙ ap (λ o. if_next o (then_row None (read_codes orders a (16 - (code + 1)) (suc code) line rest)) (λ after. read_row orders a line after >>= λ row. then_row (Some row.0) (read_codes orders a (16 - (code + 1)) (suc code) (suc line) row.1))) e))
+          ∙ h.whole;
     }
 
     module _ (after : List ℕ) (key : skip (code_key code) rest ≡ Some after) where
@@ -143,7 +149,7 @@ module _ (orders : Orders) (a w : ℕ) (text : List ℕ) (code line : ℕ) (rest
             let idle = h.idle code (omega arith) in
             let unused = ap (λ n. uses_none_past n r) h.adders ∙ none_past orders a after r last (row_read orders a line after (data_of r) last read) in
             let there = le-leb code 15 (omega arith) in
-            rw (there, idle, unused) refl
+            passes (leb code 15) (not (is_some (row_of b code))) (uses_none_past b.adders r) there (ap (λ o. not (is_some o)) idle) unused
 
         pub filled : (new : Block) → Rewritten b code (Some r) new → Filled orders a w text (code + 1) (line + 1) last new
         filled new put = record {
@@ -152,12 +158,12 @@ module _ (orders : Orders) (a w : ℕ) (text : List ℕ) (code line : ℕ) (rest
           idle = λ k l. put.others k (λ e. omega arith) ∙ h.idle k (omega arith);
           few = omega (arith, h.few);
           whole = ap (λ rows. with_rows (take (code + 1) rows) (read_codes orders a (16 - (code + 1)) (code + 1) (line + 1) last)) (rows_filled b new code r lt put)
-          ∙ ap (λ rows. with_rows rows (read_codes orders a (16 - (code + 1)) (code + 1) (line + 1) last)) (take_more_set (rows_of b) code (Some (data_of r)) (omega (arith, rows_length b)))
-          ∙ regrouped (take code (rows_of b)) (Some (data_of r)) (read_codes orders a (16 - (code + 1)) (code + 1) (line + 1) last)
-          ∙ ap (λ n. with_rows (take code (rows_of b)) (then_row (Some (data_of r)) (read_codes orders a (16 - (code + 1)) n (line + 1) last))) (sym next_is)
-          ∙ ap (λ n. with_rows (take code (rows_of b)) (then_row (Some (data_of r)) (read_codes orders a (16 - (code + 1)) (suc code) n last))) (sym line_is)
-          ∙ ap (with_rows (take code (rows_of b))) (sym (has_line ∙ ap (λ q. q >>= λ row. then_row (Some row.0) (read_codes orders a (16 - (code + 1)) (suc code) (suc line) row.1)) read))
-          ∙ h.whole;
+              ∙ ap (λ rows. with_rows rows (read_codes orders a (16 - (code + 1)) (code + 1) (line + 1) last)) (take_more_set (rows_of b) code (Some (data_of r)) (omega (arith, rows_length b)))
+              ∙ regrouped (take code (rows_of b)) (Some (data_of r)) (read_codes orders a (16 - (code + 1)) (code + 1) (line + 1) last)
+              ∙ ap (λ n. with_rows (take code (rows_of b)) (then_row (Some (data_of r)) (read_codes orders a (16 - (code + 1)) n (line + 1) last))) (sym next_is)
+              ∙ ap (λ n. with_rows (take code (rows_of b)) (then_row (Some (data_of r)) (read_codes orders a (16 - (code + 1)) (suc code) n last))) (sym line_is)
+              ∙ ap (with_rows (take code (rows_of b))) (sym (has_line ∙ ap (λ q. q >>= λ row. then_row (Some row.0) (read_codes orders a (16 - (code + 1)) (suc code) (suc line) row.1)) read))
+              ∙ h.whole;
         }
 
   module _ (all : 16 ≤ code) where
@@ -180,6 +186,10 @@ module _ (orders : Orders) (a w : ℕ) (text : List ℕ) (code line : ℕ) (rest
         ∙ ap (λ rows. Ok (record { adders = a; width = w; rows = rows })) (append-nil (rows_of b))
         ∙ ap (λ n. Ok (record { adders = n; width = w; rows = rows_of b })) (sym h.adders)
         ∙ ap (λ n. Ok (record { adders = b.adders; width = n; rows = rows_of b })) (sym h.width)
+
+pub refused : (orders : Orders) (a w : ℕ) (text : List ℕ) (code line : ℕ) (rest : List ℕ) (b : Block) → Filled orders a w text code line rest b → code < 16 → (after : List ℕ) → skip (code_key code) rest ≡ Some after
+    → (r : Row) (last : List ℕ) → read_row orders a line after ≡ Ok (data_of r, last) → (e : Refusal) → first_broken (filling_rules b code r) ≡ Some e → ⊥
+refused orders a w text code line rest b h lt after key r last read e f = some_none (sym f ∙ can_fill orders a w text code line rest b h lt after key r last read)
 
 pub none_filled : (orders : Orders) (a w : ℕ) (text : List ℕ) (b : Block) → Bare a w b → Filled orders a w text 0 (2 * a + 4) text b
 none_filled orders a w text b h = record { adders = h.adders; width = h.width; idle = λ k l. h.idle k; few = omega arith; whole = unchanged (read_codes orders a 16 0 (2 * a + 4) text) }

@@ -1,5 +1,5 @@
 -- The rules of a row that is selected.
-use Rattle.std.proofs.Common.{◌≡◌, ℕ, List, Some, None, Option, Ok, Err, refl, ap, ◌∙◌, sym}
+use Rattle.std.proofs.Common.{◌≡◌, ℕ, List, Some, Option, Ok, Err, ap, ◌∙◌, sym}
 use Rattle.adders.specs.declared.refusals.Refusal.{Refusal}
 use Rattle.adders.specs.declared.refusals.Refusal.TheVariants.{InputAbsent, RowBroken}
 use Rattle.adders.specs.declared.wiring.Operand.{Operand}
@@ -10,7 +10,7 @@ use Rattle.rows.specs.Rules.{row_rules}
 use Rattle.rows.specs.Rows.{RowJudged, kept, broken}
 use Rattle.texts.specs.declared.selection.Selection.{Selection}
 use Rattle.sheets.specs.Orders.{Orders}
-use Rattle.sheets.specs.Data.{RowData, data_of}
+use Rattle.sheets.specs.Data.{data_of}
 use Rattle.sheets.specs.Stages.{◌>>=◌, or_refused}
 use Rattle.sheets.specs.Lookup.{row_data}
 use Rattle.sheets.specs.Reader.{fault_of, judged_by, select_row}

@@ -41,9 +41,9 @@ module _ (orders : Orders) (xs : List (Option Selection)) (place : ℕ) (slots :
         record {
           room = length-set slots place x ∙ h.room;
           whole = ap (λ l. behind l (slots_of orders (suc (place + 1)) (drop (place + 1) xs))) (take_more_set slots place x (omega (arith, h.room)))
-          ∙ regrouped (take place slots) x (slots_of orders (suc (place + 1)) (drop (place + 1) xs))
-          ∙ ap (behind (take place slots)) (ap (λ n. then_slot x (slots_of orders (suc n) (drop (place + 1) xs))) (sym k) ∙ sym (one ∙ ap (λ r. r >>= λ x. then_slot x (slots_of orders (suc (suc place)) (drop (place + 1) xs))) (ap (λ n. slot_of orders n (get_or xs place None)) k ∙ e)))
-          ∙ h.whole;
+              ∙ regrouped (take place slots) x (slots_of orders (suc (place + 1)) (drop (place + 1) xs))
+              ∙ ap (behind (take place slots)) (ap (λ n. then_slot x (slots_of orders (suc n) (drop (place + 1) xs))) (sym k) ∙ sym (one ∙ ap (λ r. r >>= λ x. then_slot x (slots_of orders (suc (suc place)) (drop (place + 1) xs))) (ap (λ n. slot_of orders n (get_or xs place None)) k ∙ e)))
+              ∙ h.whole;
         }
 
   pub all_slotted : 8 ≤ place → slots_of orders 1 xs ≡ Some slots

@@ -5,3 +5,5 @@ pub mod Repeats
 pub mod Lookup
 pub mod Reader
 pub mod Answers
+pub mod Sheets
+pub mod Refusing

@@ -2,16 +2,14 @@
 --   n        the line, from 1
 --   a        the block's adder count
 --   orders   for each port its inputs in the order of its line, as far as they are read
-use Rattle.std.specs.Prelude.{ℕ, zero, suc, ◌+◌, ◌*◌, Bool, not, ◌&&◌, List, [], ◌∷◌, ◌++◌, length, map, Some, None, Option, Ok, Err, Result, codes, nat_le, nat_lt, ◌==◌, if◌then◌else◌}
+use Rattle.std.specs.Prelude.{ℕ, zero, suc, ◌+◌, ◌*◌, Bool, not, ◌&&◌, List, [], ◌∷◌, length, map, Some, None, Option, Ok, Err, Result, codes, nat_le, nat_lt, ◌==◌, if◌then◌else◌}
 use Rattle.std.specs.List.{list_all, list_any}
 use Rattle.adders.specs.declared.refusals.Refusal.{Refusal}
 use Rattle.adders.specs.declared.refusals.Refusal.TheVariants.{SheetTooLong, SheetForm, SheetLimit, InputRepeated, InputAbsent, RowBroken, InputUnselected}
 use Rattle.adders.specs.declared.refusals.RowFault.{RowFault}
 use Rattle.adders.specs.declared.refusals.RowFault.TheVariants.{NotAsRead, OutOfRange}
 use Rattle.adders.specs.Refusals.{refusal_entry}
-use Rattle.adders.specs.declared.wiring.Adder.{Adder}
 use Rattle.adders.specs.declared.wiring.Operand.{Operand}
-use Rattle.adders.specs.Values.{Slots}
 use Rattle.adders.specs.Rules.{first_broken}
 use Rattle.rows.specs.Rules.{row_rules}
 use Rattle.ports.specs.declared.port.Port.{Port}
@@ -119,5 +117,5 @@ read_sheet bytes = do
   w ← read_number (codes "width=") 1 32 2 a.1
   orders ← read_ports a.0 3 (ports a.0) no_lines w.1
   block ← read_block orders.0 a.0 w.0 orders.1
-  selected ← check_ports block.rows orders.0 3 (ports a.0)
+  selected ← check_ports block.rows orders.0 3 (ports block.adders)
   Ok block

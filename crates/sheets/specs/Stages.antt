@@ -1,5 +1,5 @@
 -- One stage of reading after another, up to the first that is turned down.
-use Rattle.std.specs.Prelude.{ℕ, Bool, Some, None, Option, Ok, Err, Result, if◌then◌else◌}
+use Rattle.std.specs.Prelude.{Bool, Some, None, Option, Ok, Err, Result, if◌then◌else◌}
 use Rattle.adders.specs.declared.refusals.Refusal.{Refusal}
 
 infixl 10 ◌>>=◌

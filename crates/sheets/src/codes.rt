@@ -80,9 +80,7 @@ impl PortLists {
     fn row(&self, selections: Selections, line: usize) -> Result<Row, Refusal>
         ensures { Gives data_of result (select_row (lists_of self.now) line selections.adders selections.output) }
     {
-        let (slots, output) = self
-            .selected(selections)
-            .ok_or(Refusal::InputAbsent(line))?;
+        let (slots, output) = self.selected(selections).ok_or(Refusal::InputAbsent(line))?;
         match Row::new(slots, output) {
             Ok(row) => Ok(row),
             Err(refusal) => Err(Refusal::RowBroken(line, fault_of(refusal))),

@@ -1,6 +1,7 @@
 // The limits of a sheet's numbers.
-ghost use Rattle.std.specs.Prelude.{◌≡◌, ◌≤◌, MatchOption};
-ghost use Rattle.std.specs.List.{list_all};
+ghost use Rattle.std.specs.Prelude.{◌≡◌, ◌≤◌, MatchOption, IfOk};
+ghost use Rattle.std.specs.List.{list_all, list_any};
+ghost use Rattle.ports.specs.Inputs.{same};
 ghost use Rattle.sheets.specs.Reader.{read_number, bound, allowed};
 ghost use Rattle.sheets.specs.Answers.{Gives};
 ghost use Rattle.sheets.specs.Repeats.{AllDiffer, FirstRepeat};
@@ -18,7 +19,8 @@ pub fn number_within<'a>(
     high: u8,
     line: usize,
 ) -> Result<(u8, &'a [u8]), Refusal>
-    ensures { Gives (λ x. (x.0, x.1.now)) result (read_number key.now low high line text.now) }
+    ensures answer { Gives (λ x. (x.0, x.1.now)) result (read_number key.now low high line text.now) }
+    ensures within { IfOk result (λ x. (low ≤ x.0) × (x.0 ≤ high)) }
 {
     let (number, rest) = number_line(text, key).ok_or(Refusal::SheetForm(line))?;
     if !(low..=high).contains(&number) {
@@ -64,4 +66,16 @@ pub fn first_repeat(inputs: &[Operand]) -> Option<(usize, usize)>
         }
     }
     found
+}
+
+// Whether each input is one of the others.
+pub fn all_among(inputs: &[Operand], others: &[Operand]) -> bool
+    ensures { result ≡ list_all (λ o. list_any (same o) others.now) inputs.now }
+{
+    for input in inputs {
+        if !others.contains(input) {
+            return false;
+        }
+    }
+    true
 }

@@ -14,6 +14,7 @@ use texts::port_line;
 const MOST_PORTS: usize = 17;
 
 // The inputs of each port; one that has no line has none.
+#[derive(Clone, Copy)]
 pub struct PortLists {
     lists: [InputList; 17],
 }

@@ -1,9 +1,8 @@
-use Rattle.std.proofs.Common.{◌≡◌, ◌+◌, ◌<◌, drop, Ok, Err, sym, ap, ◌∙◌, subst, arith}
+use Rattle.std.proofs.Common.{◌≡◌, ◌+◌, ◌<◌, drop, Ok, Err, sym, ap, ◌∙◌, subst}
 use Rattle.std.proofs.lemmas.Result.{err_from_is_err_and}
-use Rattle.ports.specs.Ports.{ports, nth_port}
+use Rattle.ports.specs.Ports.{ports}
 use Rattle.sheets.specs.Orders.{place_of, lists_of, with_line}
 use Rattle.sheets.specs.Reader.{read_ports, read_port}
-use Rattle.sheets.specs.Answers.{LineGiven}
 use Rattle.sheets.proofs.PortOrder.{has_place, line_stops, line_goes_on, lines_end}
 use Rattle.sheets.proofs.lists.PortLists.read.Goals as goal
 

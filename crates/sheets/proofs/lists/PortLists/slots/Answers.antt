@@ -1,4 +1,4 @@
-use Rattle.std.proofs.Common.{◌≡◌, length, sym, ap, ◌∙◌, arith, rules}
+use Rattle.std.proofs.Common.{◌≡◌, length, sym, ◌∙◌, rules}
 use Rattle.sheets.specs.Orders.{lists_of}
 use Rattle.sheets.proofs.Slotted.{absent, slotted, all_slotted}
 use Rattle.sheets.proofs.lists.PortLists.slots.Goals as goal
