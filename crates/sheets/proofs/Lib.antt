@@ -7,3 +7,8 @@ pub mod RowRules
 pub mod Staged
 pub mod RowByRow
 pub mod Selected
+pub mod Placed
+pub mod PortsRead
+pub mod RowsRead
+pub mod Sound
+pub mod Accepting

@@ -2,6 +2,7 @@
 #![tactic(auto)]
 
 mod codes;
+mod laws;
 mod limits;
 mod lists;
 mod reader;

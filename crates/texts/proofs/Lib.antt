@@ -1,4 +1,4 @@
-mod Skips
+pub mod Skips
 pub mod Listed
 pub mod Takes
 pub mod Following

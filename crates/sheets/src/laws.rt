@@ -1,0 +1,8 @@
+// What holds of every sheet.
+ghost use Rattle.sheets.specs.SheetLaws.{SheetsAreRead};
+
+// Bytes are accepted exactly if they are a sheet of some block, and as that block.
+#[tactic(auto, using(crate::proofs::Accepting::sheets_read))]
+pub fn sheets_are_read()
+    ensures { SheetsAreRead }
+{}
