@@ -6,8 +6,7 @@ ghost use Rattle.writing.specs.Writes.{Wrote, SmallPort};
 use crate::text::SheetText;
 use adders::{Operand, Sign};
 use ports::Port;
-use texts::Selection;
-use texts::keys;
+use texts::{Selection, keys};
 
 // The tens of a number up to 99, as a digit.
 fn tens(value: usize) -> u8

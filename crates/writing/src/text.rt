@@ -11,7 +11,7 @@ const MOST: usize = 4096;
 // A text of at most 4,096 bytes. What does not fit is let go.
 #[derive(Drop)]
 pub struct SheetText {
-    bytes: [u8; 4096],
+    bytes: [u8; MOST],
     len: usize,
 }
 
