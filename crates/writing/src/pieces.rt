@@ -24,6 +24,7 @@ fn ones(value: usize) -> u8
 
 impl SheetText {
     // The bytes of a key.
+    #[tactic(auto, using(crate::proofs::Joins::one_more, crate::proofs::Joins::whole))]
     pub fn key(&mut self, key: &[u8])
         ensures { Wrote self.old key.now self.new }
     {

@@ -16,13 +16,13 @@ pub struct SheetText {
 }
 
 impl Model for SheetText {
-    ghost use Rattle.std.specs.Prelude.{◌≡◌, ◌≤◌, ℕ, List, length, take};
+    ghost use Rattle.std.specs.Prelude.{◌≤◌, ℕ, List, take};
 
     ghost Value = { List ℕ };
 
     ghost view = { λ t. take t.len t.bytes };
 
-    ghost invariant = { λ t. (t.len ≤ 4096) × (length t.bytes ≡ 4096) };
+    ghost invariant = { λ t. t.len ≤ 4096 };
 }
 
 impl SheetText {
