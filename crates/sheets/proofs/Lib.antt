@@ -9,6 +9,7 @@ pub mod RowByRow
 pub mod Selected
 pub mod Placed
 pub mod PortsRead
+pub mod Selecting
 pub mod RowsRead
 pub mod Sound
 pub mod Accepting

@@ -8,3 +8,4 @@ pub mod Answers
 pub mod Sheets
 pub mod Refusing
 pub mod SheetLaws
+pub mod Calls

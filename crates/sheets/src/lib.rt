@@ -1,8 +1,13 @@
 // The wiring sheet of a block: read, judged and written.
 #![tactic(auto)]
 
+mod calls;
 mod codes;
 mod laws;
 mod limits;
 mod lists;
 mod reader;
+mod writer;
+
+pub use calls::{read, write};
+pub use laws::sheets_are_read;

@@ -62,7 +62,7 @@ impl PortLists {
 
 // The block that a sheet writes, or the first cause to turn the sheet down.
 #[tactic(auto, unfolding(crate::specs::Reader::read_sheet))]
-fn read(sheet: &[u8]) -> Result<Block, Refusal>
+pub fn read_block(sheet: &[u8]) -> Result<Block, Refusal>
     ensures { Gives said result (read_sheet sheet.now) }
 {
     if sheet.len() > MOST_BYTES {
