@@ -131,14 +131,14 @@ different_ascend [] = tt
 different_ascend (None ∷ es) = different_ascend es
 different_ascend (Some e ∷ es) = insert_ascends e (different es) (different_ascend es)
 
-put_has : (es : List (Option Operand)) (o : Operand) (k : ℕ) → get_or es k None ≡ Some o → Among o (different es)
+pub put_has : (es : List (Option Operand)) (o : Operand) (k : ℕ) → get_or es k None ≡ Some o → Among o (different es)
 put_has [] o k h = absurd (some_none (sym h))
 put_has (None ∷ es) o zero h = absurd (some_none (sym h))
 put_has (None ∷ es) o (suc k) h = put_has es o k h
 put_has (Some e ∷ es) o zero h = subst (λ z. Among z (insert e (different es))) (cc) (has_new e (different es))
 put_has (Some e ∷ es) o (suc k) h = has_kept e o (different es) (put_has es o k h)
 
-has_put : (es : List (Option Operand)) (o : Operand) → Among o (different es) → (k : ℕ) × (get_or es k None ≡ Some o)
+pub has_put : (es : List (Option Operand)) (o : Operand) → Among o (different es) → (k : ℕ) × (get_or es k None ≡ Some o)
 has_put [] o h = absurd h
 has_put (None ∷ es) o h = let r = has_put es o h in (suc r.0, r.1)
 has_put (Some e ∷ es) o h =

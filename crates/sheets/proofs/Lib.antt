@@ -11,5 +11,11 @@ pub mod Placed
 pub mod PortsRead
 pub mod Selecting
 pub mod RowsRead
+pub mod Rowed
+pub mod Counted
+pub mod PortsAgain
+pub mod RowsAgain
 pub mod Sound
+pub mod Sizes
+pub mod Complete
 pub mod Accepting

@@ -11,7 +11,7 @@ use Rattle.sheets.specs.Orders.{Orders, with_line, place_of}
 use Rattle.sheets.specs.Stages.{◌>>=◌}
 use Rattle.sheets.specs.Reader.{read_port, read_ports}
 
-ports_count : (n j : ℕ) → length (ports_from j n) ≡ 2 * n + 1
+pub ports_count : (n j : ℕ) → length (ports_from j n) ≡ 2 * n + 1
 ports_count zero j = refl
 ports_count (suc n) j = omega (arith, ports_count n (suc j))
 

@@ -102,7 +102,7 @@ row_parts orders xs out r h =
     let same = some_is (record { slots = s.0; output = o.0 }) r o.2 in
     (s.1 ∙ ap (λ (d : RowData). Some d.slots) same, o.1 ∙ ap (λ (d : RowData). Some d.output) same)
 
-slot_is : (xs : Slots) (k : ℕ) → slot_at xs (suc k) ≡ get_or xs k None
+pub slot_is : (xs : Slots) (k : ℕ) → slot_at xs (suc k) ≡ get_or xs k None
 slot_is xs k =
     let n : suc k - 1 ≡ k = omega arith in
     cond-true (leb 1 (suc k)) (get_or xs (suc k - 1) None) None (le-leb 1 (suc k) (omega arith)) ∙ ap (λ m. get_or xs m None) n

@@ -87,19 +87,19 @@ pub record SheetRead (bytes : List ℕ) (s : Said) : Type 0 where
   pub codes_read : read_codes orders s.adders 16 0 (2 * s.adders + 4) after_ports ≡ Ok s.rows
   pub selected : check_ports s.rows orders 3 (ports s.adders) ≡ Ok tt
 
-abbrev checking : Orders × List ℕ → Said → Result Said Refusal
+abbrev pub checking : Orders × List ℕ → Said → Result Said Refusal
 checking orders block = check_ports block.rows orders.0 3 (ports block.adders) >>= λ selected. Ok block
 
-abbrev coding : ℕ × List ℕ → ℕ × List ℕ → Orders × List ℕ → Result Said Refusal
+abbrev pub coding : ℕ × List ℕ → ℕ × List ℕ → Orders × List ℕ → Result Said Refusal
 coding a w orders = read_block orders.0 a.0 w.0 orders.1 >>= checking orders
 
-abbrev listing : ℕ × List ℕ → ℕ × List ℕ → Result Said Refusal
+abbrev pub listing : ℕ × List ℕ → ℕ × List ℕ → Result Said Refusal
 listing a w = read_ports a.0 3 (ports a.0) no_lines w.1 >>= coding a w
 
-abbrev widening : ℕ × List ℕ → Result Said Refusal
+abbrev pub widening : ℕ × List ℕ → Result Said Refusal
 widening a = read_number (codes "width=") 1 32 2 a.1 >>= listing a
 
-abbrev beginning : List ℕ → Result Said Refusal
+abbrev pub beginning : List ℕ → Result Said Refusal
 beginning text = read_number (codes "adders=") 0 8 1 text >>= widening
 
 tt_is : (u : Unit {0}) → u ≡ tt

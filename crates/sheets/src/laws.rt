@@ -2,7 +2,6 @@
 ghost use Rattle.sheets.specs.SheetLaws.{SheetsAreRead};
 
 // Bytes are accepted exactly if they are a sheet of some block, and as that block.
-#[tactic(auto, using(crate::proofs::Accepting::sheets_read))]
 pub fn sheets_are_read()
     ensures { SheetsAreRead }
 {}
