@@ -19,3 +19,5 @@ pub mod Sound
 pub mod Sizes
 pub mod Complete
 pub mod Accepting
+pub mod SameSaid
+pub mod ReadOver
