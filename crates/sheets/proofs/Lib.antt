@@ -7,3 +7,5 @@ pub mod RowRules
 pub mod Staged
 pub mod RowByRow
 pub mod Selected
+pub mod ToldNumbers
+pub mod Told

@@ -7,3 +7,4 @@ pub mod Reader
 pub mod Answers
 pub mod Sheets
 pub mod Refusing
+pub mod RefusalLaw

@@ -5,3 +5,5 @@ mod codes;
 mod limits;
 mod lists;
 mod reader;
+mod refusals;
+pub use refusals::refusals_are_told;

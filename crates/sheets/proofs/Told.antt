@@ -1,0 +1,6 @@
+-- The reader's refusals and the causes.
+use Rattle.sheets.specs.RefusalLaw.{RefusalsAreTold}
+use Rattle.sheets.proofs.ToldNumbers.{number_told}
+
+pub refusals_told : RefusalsAreTold
+refusals_told = ?
