@@ -8,4 +8,6 @@ pub mod Staged
 pub mod RowByRow
 pub mod Selected
 pub mod ToldNumbers
+pub mod ToldRepeats
+pub mod ToldPorts
 pub mod Told

@@ -1,6 +1,7 @@
 -- The reader's refusals and the causes.
 use Rattle.sheets.specs.RefusalLaw.{RefusalsAreTold}
 use Rattle.sheets.proofs.ToldNumbers.{number_told}
+use Rattle.sheets.proofs.ToldPorts.{port_told}
 
 pub refusals_told : RefusalsAreTold
 refusals_told = ?
