@@ -10,4 +10,6 @@ pub mod Selected
 pub mod ToldNumbers
 pub mod ToldRepeats
 pub mod ToldPorts
+pub mod ToldOrder
+pub mod ToldLines
 pub mod Told
