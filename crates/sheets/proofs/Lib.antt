@@ -12,4 +12,6 @@ pub mod ToldRepeats
 pub mod ToldPorts
 pub mod ToldOrder
 pub mod ToldLines
+pub mod ToldKeys
+pub mod ToldCodes
 pub mod Told

@@ -3,6 +3,8 @@ use Rattle.sheets.specs.RefusalLaw.{RefusalsAreTold}
 use Rattle.sheets.proofs.ToldNumbers.{number_told}
 use Rattle.sheets.proofs.ToldPorts.{port_told}
 use Rattle.sheets.proofs.ToldLines.{ports_told}
+use Rattle.sheets.proofs.ToldKeys.{row_told}
+use Rattle.sheets.proofs.ToldCodes.{codes_told}
 
 pub refusals_told : RefusalsAreTold
 refusals_told = ?
