@@ -14,4 +14,7 @@ pub mod ToldOrder
 pub mod ToldLines
 pub mod ToldKeys
 pub mod ToldCodes
+pub mod ToldReached
+pub mod ToldRows
+pub mod ToldSelected
 pub mod Told
