@@ -17,4 +17,5 @@ pub mod ToldCodes
 pub mod ToldReached
 pub mod ToldRows
 pub mod ToldSelected
+pub mod ToldStages
 pub mod Told
