@@ -1,19 +1,19 @@
 -- The reader's refusals and the causes.
-use Rattle.std.proofs.Common.{◌≡◌, ◌≢◌, ℕ, zero, suc, ◌+◌, ◌*◌, ◌<◌, ◌≤◌, ◌⊎◌, inl, inr, leb, List, [], ◌∷◌, ◌++◌, length, take, get_or, Option, Ok, Err, Result, refl, ap, ◌∙◌, sym, subst, arith}
+use Rattle.std.proofs.Common.{◌≡◌, ◌≢◌, ℕ, suc, ◌+◌, ◌*◌, ◌<◌, ◌≤◌, ◌⊎◌, inl, inr, leb, List, [], ◌∷◌, ◌++◌, length, get_or, Option, Ok, Err, Result, ap, ◌∙◌, sym, subst, arith}
 use Rattle.std.specs.Prelude.{codes}
 use Rattle.std.proofs.lemmas.Bool.{leb-true, leb-false}
 use Rattle.adders.specs.declared.refusals.Refusal.{Refusal}
 use Rattle.adders.specs.declared.refusals.Refusal.TheVariants.{SheetTooLong}
 use Rattle.ports.specs.declared.port.Port.{Port}
 use Rattle.ports.specs.declared.port.Port.TheVariants.{Output}
-use Rattle.ports.specs.Ports.{ports, nth_port}
+use Rattle.ports.specs.Ports.{ports}
 use Rattle.texts.specs.Text.{number_line}
 use Rattle.sheets.specs.Orders.{Orders, no_lines}
 use Rattle.sheets.specs.Data.{RowData, Said}
 use Rattle.sheets.specs.Sheets.{port_lines}
-use Rattle.sheets.specs.Stages.{◌>>=◌, if_passed}
+use Rattle.sheets.specs.Stages.{if_passed}
 use Rattle.sheets.specs.Reader.{read_number, read_ports, read_codes, read_block, check_ports, read_sheet}
-use Rattle.sheets.specs.Refusing.{Begun, PortsBegun, AllPorts, Refused, too_long, in_adders, in_width, in_port, in_code, unselected}
+use Rattle.sheets.specs.Refusing.{Begun, AllPorts, Refused, too_long, in_adders, in_width, in_port, in_code, unselected}
 use Rattle.sheets.specs.RefusalLaw.{RefusalsAreTold}
 use Rattle.sheets.proofs.Staged.{bind_ok, passed, ok_is, ok_not_err}
 use Rattle.sheets.proofs.ToldNumbers.{bind_err, not_passed, number_told, number_fine}

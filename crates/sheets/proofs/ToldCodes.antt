@@ -1,20 +1,20 @@
 -- The code lines: which is turned down first.
-use Rattle.std.proofs.Common.{◌≡◌, ◌≢◌, ℕ, zero, suc, ◌+◌, ◌-◌, ◌<◌, ◌≤◌, ◌⊎◌, inl, inr, Bool, true, false, eqb, List, [], ◌∷◌, ◌++◌, length, Some, None, Option, Ok, Err, Result, refl, ap, ◌∙◌, sym, subst, ⊎_elim, arith}
+use Rattle.std.proofs.Common.{◌≡◌, ℕ, zero, suc, ◌+◌, ◌≤◌, ◌⊎◌, inl, inr, eqb, List, [], ◌∷◌, ◌++◌, length, Some, None, Option, Ok, Err, Result, refl, ap, ◌∙◌, sym, subst, ⊎_elim, arith}
 use Rattle.std.proofs.lemmas.Bool.{cases_eq, false≢true}
 use Rattle.adders.specs.declared.refusals.Refusal.{Refusal}
 use Rattle.adders.specs.declared.refusals.Refusal.TheVariants.{SheetForm}
 use Rattle.adders.proofs.Broken.{some_none}
 use Rattle.texts.specs.declared.selection.Selection.{Selection}
-use Rattle.texts.specs.Text.{code_key, selections}
-use Rattle.texts.specs.Pieces.{skip, if_next, selections_at}
+use Rattle.texts.specs.Text.{code_key}
+use Rattle.texts.specs.Pieces.{skip, if_next}
 use Rattle.sheets.specs.Orders.{Orders}
 use Rattle.sheets.specs.Data.{RowData}
-use Rattle.sheets.specs.Stages.{◌>>=◌, if_passed}
+use Rattle.sheets.specs.Stages.{◌>>=◌}
 use Rattle.sheets.specs.Reader.{read_row, then_row, read_codes}
-use Rattle.sheets.specs.Refusing.{CodeLine, CodeFault, form, absent, broken, CodeFine, CodesFine, none, next}
+use Rattle.sheets.specs.Refusing.{CodeLine, CodeFault, form, absent, broken, CodesFine, none, next}
 use Rattle.sheets.proofs.Staged.{ok_not_err}
-use Rattle.sheets.proofs.ToldNumbers.{err_is, bind_err, not_passed}
-use Rattle.sheets.proofs.ToldKeys.{key_again, key_takes, one_key, line_key, line_read, line_from, row_told, row_fine, row_absent, row_broken, row_taken}
+use Rattle.sheets.proofs.ToldNumbers.{bind_err, not_passed}
+use Rattle.sheets.proofs.ToldKeys.{key_takes, line_key, row_told, row_fine}
 
 abbrev pub Rest : Type 0
 Rest = Result (List (Option RowData)) Refusal

@@ -1,5 +1,5 @@
 -- The lines of the ports, one after another: which is turned down first, and what they say.
-use Rattle.std.proofs.Common.{◌≡◌, ◌≢◌, ℕ, zero, suc, ◌+◌, ◌<◌, ◌≤◌, ◌⊎◌, inl, inr, Bool, true, false, cond, List, [], ◌∷◌, ◌++◌, length, take, get_or, Ok, Err, Result, refl, ap, ◌∙◌, sym, subst, append_assoc, arith}
+use Rattle.std.proofs.Common.{◌≡◌, ℕ, zero, suc, ◌+◌, ◌<◌, ◌≤◌, ◌⊎◌, inl, inr, Bool, true, false, cond, List, [], ◌∷◌, ◌++◌, length, take, get_or, Ok, Err, refl, ap, ◌∙◌, sym, subst, append_assoc, arith}
 use Rattle.adders.specs.declared.wiring.Operand.{Operand}
 use Rattle.adders.specs.declared.refusals.Refusal.{Refusal}
 use Rattle.ports.specs.declared.port.Port.{Port}
@@ -20,6 +20,7 @@ abbrev pub Fine : ℕ → Orders → List Port → Type 0
 Fine a orders [] = Unit {0}
 Fine a orders (p ∷ ps) = PortFine a p (orders p) × Fine a orders ps
 
+-- at each place
 pub fine_at : (a : ℕ) (orders : Orders) (k : ℕ) (ps : List Port) → k ≤ length ps → Fine a orders (take k ps) → (i : ℕ) → i < k → PortFine a (get_or ps i Output) (orders (get_or ps i Output))
 fine_at a orders zero ps l f i h = absurd (omega arith)
 fine_at a orders (suc k) [] l f i h = absurd (omega arith)
@@ -53,6 +54,7 @@ pub record PortStop (a n : ℕ) (ps : List Port) (text : List ℕ) (e : Refusal)
   pub fine : Fine a orders (take before ps)
   pub fault : PortFault a (before + n) (get_or ps before Output) rest e
 
+-- a refusal has its cause at one of them
 pub ports_told : (a n : ℕ) (ps : List Port) (orders : Orders) (text : List ℕ) (e : Refusal) → Proper ps → read_ports a n ps orders text ≡ Err e → PortStop a n ps text e
 unfolding read_ports
 ports_told a n [] orders text e small h = absurd (ok_not_err (orders, text) e h)
@@ -88,9 +90,7 @@ module _ (a : ℕ) (orders : Orders) where
   one_more : (n : ℕ) (p : Port) (ps : List Port) (text rest : List ℕ) → Proper (p ∷ ps) → PortFine a p (orders p) → text ≡ (port_line p (orders p) ++ port_lines orders ps) ++ rest → read_port a n p text ≡ Ok (orders p, port_lines orders ps ++ rest)
   one_more n p ps text rest small f t = port_read a n p text small.0 (orders p) (port_lines orders ps ++ rest) f (t ∙ append_assoc (port_line p (orders p)) (port_lines orders ps) rest)
 
-  first_small : (k : ℕ) (p : Port) (ps : List Port) → Proper (p ∷ ps) → Proper (p ∷ [])
-  first_small k p ps small = (small.0, (tt, tt))
-
+  -- a cause at one of them is told
   pub ports_refused : (k n : ℕ) (ps : List Port) (before : Orders) (text rest : List ℕ) (e : Refusal) → Proper ps → k < length ps → Fine a orders (take k ps) → text ≡ port_lines orders (take k ps) ++ rest → PortFault a (k + n) (get_or ps k Output) rest e
       → read_ports a n ps before text ≡ Err e
   unfolding read_ports
@@ -110,7 +110,8 @@ module _ (a : ℕ) (orders : Orders) where
   overlay [] before = before
   overlay (p ∷ ps) before = overlay ps (with_line p (orders p) before)
 
-  kept_there : (ps : List Port) (before : Orders) (q : Port) → before q ≡ orders q → overlay ps before q ≡ orders q
+  -- a port that has its inputs keeps them
+  pub kept_there : (ps : List Port) (before : Orders) (q : Port) → before q ≡ orders q → overlay ps before q ≡ orders q
   kept_there [] before q e = e
   kept_there (p ∷ ps) before q e = kept_there ps (with_line p (orders p) before) q (by (same_port p q) refl)
     where
@@ -118,14 +119,13 @@ module _ (a : ℕ) (orders : Orders) where
       by true s = ap (λ b. cond b (orders p) (before q)) s ∙ ap orders (one_port p q s)
       by false s = ap (λ b. cond b (orders p) (before q)) s ∙ e
 
+  -- a port that is read has them
   pub kept_at : (ps : List Port) (before : Orders) (k : ℕ) → k < length ps → (q : Port) → get_or ps k Output ≡ q → overlay ps before q ≡ orders q
   kept_at [] before k h q e = absurd (omega arith)
   kept_at (p ∷ ps) before zero h q e = kept_there ps (with_line p (orders p) before) q (subst (λ r. with_line p (orders p) before r ≡ orders r) e (line_here p (orders p) before))
   kept_at (p ∷ ps) before (suc k) h q e = kept_at ps (with_line p (orders p) before) k (omega arith) q e
 
-  pub kept_else : (ps : List Port) (before : Orders) (q : Port) → before q ≡ orders q → overlay ps before q ≡ orders q
-  kept_else ps before q e = kept_there ps before q e
-
+  -- fine lines are read
   pub ports_read : (n : ℕ) (ps : List Port) (before : Orders) (text rest : List ℕ) → Proper ps → Fine a orders ps → text ≡ port_lines orders ps ++ rest → read_ports a n ps before text ≡ Ok (overlay ps before, rest)
   unfolding read_ports
   ports_read n [] before text rest small f t = ap (λ u. Ok (before, u)) t

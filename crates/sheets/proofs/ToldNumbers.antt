@@ -1,6 +1,6 @@
 -- Stages that are turned down, and the lines of a key and a number.
-use Rattle.std.proofs.Common.{◌≡◌, ◌≢◌, ℕ, ◌<◌, ◌≤◌, ◌⊎◌, inl, inr, Bool, true, false, ◌&&◌, leb, List, ◌++◌, Some, None, Option, Ok, Err, Result, refl, ap, ◌∙◌, sym, subst, ⊎_elim, arith}
-use Rattle.std.proofs.lemmas.Bool.{le-leb, lt-leb, leb-true, leb-false, and_parts, and_cases, and_from, and_left, and_right, false≢true}
+use Rattle.std.proofs.Common.{◌≡◌, ℕ, ◌<◌, ◌≤◌, ◌⊎◌, inl, inr, Bool, true, false, ◌&&◌, leb, List, ◌++◌, Some, None, Option, Ok, Err, Result, refl, ap, ◌∙◌, sym, subst, ⊎_elim}
+use Rattle.std.proofs.lemmas.Bool.{le-leb, lt-leb, leb-true, leb-false, and_parts, and_cases, and_from, and_left, and_right}
 use Rattle.adders.specs.declared.refusals.Refusal.{Refusal}
 use Rattle.adders.specs.declared.refusals.Refusal.TheVariants.{SheetForm, SheetLimit}
 use Rattle.adders.proofs.Broken.{some_none}
@@ -12,10 +12,7 @@ use Rattle.texts.proofs.Again.{number_line_again}
 use Rattle.sheets.specs.Stages.{◌>>=◌, or_refused, if_passed}
 use Rattle.sheets.specs.Reader.{read_number}
 use Rattle.sheets.specs.Refusing.{NumberFault, form, limit}
-use Rattle.sheets.proofs.Staged.{done, bind_ok, there, passed, ok_not_err}
-
-abbrev pub refused : {A : Type 0} → Refusal → Result A Refusal
-refused e = Err e
+use Rattle.sheets.proofs.Staged.{bind_ok, there, passed, ok_not_err}
 
 pub err_is : {A : Type 0} (d e : Refusal) → ◌≡◌ {A = Result A Refusal} (Err d) (Err e) → d ≡ e
 err_is d e h = cc
@@ -25,10 +22,12 @@ pub bind_err : {A B : Type 0} (r : Result A Refusal) (f : A → Result B Refusal
 bind_err (Ok x) f e h = inr (x, refl, h)
 bind_err {A} {B} (Err d) f e h = inl (ap Err (err_is {A = B} d e h))
 
+-- there was nothing
 pub not_there : {A : Type 0} (d e : Refusal) (o : Option A) → or_refused d o ≡ Err e → (o ≡ None) × (d ≡ e)
 not_there {A} d e None h = (refl, err_is {A = A} d e h)
 not_there d e (Some x) h = absurd (ok_not_err x e h)
 
+-- the test failed
 pub not_passed : {A : Type 0} (b : Bool) (d e : Refusal) (x : A) → if_passed b d x ≡ Err e → (b ≡ false) × (d ≡ e)
 not_passed true d e x h = absurd (ok_not_err x e h)
 not_passed {A} false d e x h = (refl, err_is {A = A} d e h)

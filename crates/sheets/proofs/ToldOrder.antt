@@ -1,5 +1,5 @@
 -- The ports in their order are all different, and their numbers have two digits at most.
-use Rattle.std.proofs.Common.{◌≡◌, ◌≢◌, ℕ, zero, suc, ◌+◌, ◌<◌, ◌≤◌, ◌⊎◌, inl, inr, Bool, true, false, cond, eqb, List, [], ◌∷◌, length, get_or, refl, ap, ◌∙◌, sym, arith}
+use Rattle.std.proofs.Common.{◌≡◌, ◌≢◌, ℕ, zero, suc, ◌+◌, ◌<◌, ◌≤◌, ◌⊎◌, inl, inr, Bool, true, false, cond, List, [], ◌∷◌, length, get_or, refl, ap, ◌∙◌, sym, arith}
 use Rattle.std.proofs.lemmas.Bool.{eqb-true, eq-eqb, false≢true, false_from_ne_true}
 use Rattle.adders.specs.declared.wiring.Operand.{Operand}
 use Rattle.ports.specs.declared.port.Port.{Port}
@@ -37,6 +37,7 @@ abbrev pub Fresh : Port → List Port → Type 0
 Fresh p [] = Unit {0}
 Fresh p (q ∷ qs) = (q ≢ p) × Fresh p qs
 
+-- all different, and their numbers small
 abbrev pub Proper : List Port → Type 0
 Proper [] = Unit {0}
 Proper (p ∷ ps) = SmallPort p × (Fresh p ps × Proper ps)

@@ -1,5 +1,5 @@
 -- The line of one port: why it is turned down, and what it says.
-use Rattle.std.proofs.Common.{◌≡◌, ◌≢◌, ℕ, Bool, true, false, not, List, ◌++◌, Some, None, Option, Ok, Err, Result, refl, ap, ◌∙◌, sym, subst}
+use Rattle.std.proofs.Common.{◌≡◌, ℕ, Bool, true, false, not, List, ◌++◌, Some, None, Ok, Err, Result, refl, ap, ◌∙◌, sym, subst}
 use Rattle.std.proofs.lemmas.Bool.{not-true, not-false}
 use Rattle.adders.specs.declared.wiring.Operand.{Operand}
 use Rattle.adders.specs.declared.refusals.Refusal.{Refusal}
@@ -13,7 +13,7 @@ use Rattle.texts.specs.Pieces.{port_line_at}
 use Rattle.texts.proofs.Takes.{port_line_takes}
 use Rattle.texts.proofs.Again.{port_line_again}
 use Rattle.sheets.specs.Stages.{◌>>=◌, or_refused, if_passed}
-use Rattle.sheets.specs.Repeats.{repeats, FirstRepeat}
+use Rattle.sheets.specs.Repeats.{repeats}
 use Rattle.sheets.specs.Reader.{bound, within_limits, read_port}
 use Rattle.sheets.specs.Refusing.{PortFault, form, limit, repeat, PortFine}
 use Rattle.sheets.proofs.Repeated.{repeats_by, once_of, of_once}

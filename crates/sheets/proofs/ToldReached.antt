@@ -1,5 +1,5 @@
 -- The code lines: a cause that is there is told.
-use Rattle.std.proofs.Common.{◌≡◌, ◌≢◌, ℕ, zero, suc, ◌+◌, ◌-◌, ◌<◌, ◌≤◌, Bool, true, false, eqb, List, [], ◌∷◌, ◌++◌, length, Some, None, Option, Ok, Err, Result, refl, ap, ◌∙◌, sym, subst, arith}
+use Rattle.std.proofs.Common.{◌≡◌, ◌≢◌, ℕ, zero, suc, ◌+◌, ◌-◌, ◌≤◌, List, [], ◌∷◌, ◌++◌, length, Some, None, Option, Ok, Err, refl, ap, ◌∙◌, sym, arith}
 use Rattle.std.proofs.lemmas.Bool.{ne_eqb}
 use Rattle.adders.specs.declared.refusals.Refusal.{Refusal}
 use Rattle.adders.specs.declared.refusals.Refusal.TheVariants.{SheetForm}
@@ -7,12 +7,11 @@ use Rattle.texts.specs.declared.selection.Selection.{Selection}
 use Rattle.texts.specs.Text.{code_key, selections}
 use Rattle.texts.specs.Pieces.{skip, selections_at}
 use Rattle.sheets.specs.Orders.{Orders}
-use Rattle.sheets.specs.Data.{RowData}
 use Rattle.sheets.specs.Stages.{◌>>=◌, or_refused, if_passed}
 use Rattle.sheets.specs.Reader.{read_row, select_row, then_row, read_codes}
 use Rattle.texts.specs.Listings.{eight_places}
-use Rattle.sheets.specs.Refusing.{CodeLine, CodeFault, form, absent, broken, CodeFine, CodesFine, none, next}
-use Rattle.sheets.proofs.ToldKeys.{key_again, key_takes, one_key, line_key, line_from, row_absent, row_broken, row_taken}
+use Rattle.sheets.specs.Refusing.{CodeLine, CodeFault, form, absent, broken, CodesFine, none, next}
+use Rattle.sheets.proofs.ToldKeys.{key_takes, one_key, line_key, line_from, row_absent, row_broken, row_taken}
 use Rattle.sheets.proofs.ToldCodes.{rows_after, code_idle, code_live}
 
 -- a text that begins with the key of one code has no other's

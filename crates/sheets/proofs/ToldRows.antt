@@ -1,19 +1,18 @@
 -- The rows that the code lines select.
-use Rattle.std.proofs.Common.{◌≡◌, ◌≢◌, ℕ, zero, suc, ◌+◌, ◌<◌, ◌≤◌, Bool, true, false, eqb, List, [], ◌∷◌, ◌++◌, length, Some, None, Option, Ok, Err, Result, refl, ap, ◌∙◌, sym, subst, arith}
+use Rattle.std.proofs.Common.{◌≡◌, ℕ, zero, suc, ◌+◌, ◌<◌, true, eqb, List, [], ◌∷◌, ◌++◌, length, Some, None, Option, Ok, refl, ap, ◌∙◌, sym, subst, arith}
 use Rattle.std.proofs.lemmas.Bool.{eqb-true}
 use Rattle.adders.specs.declared.refusals.Refusal.TheVariants.{SheetForm}
 use Rattle.adders.proofs.Broken.{some_none}
-use Rattle.texts.specs.declared.selection.Selection.{Selection}
 use Rattle.texts.specs.Text.{code_key, selections}
 use Rattle.texts.specs.Pieces.{skip}
 use Rattle.sheets.specs.Orders.{Orders}
 use Rattle.sheets.specs.Data.{RowData}
 use Rattle.sheets.specs.Stages.{◌>>=◌, if_passed}
 use Rattle.sheets.specs.Reader.{read_row, then_row, read_codes}
-use Rattle.sheets.specs.Refusing.{CodeLine, CodeFine, Rows, end, idle, live}
+use Rattle.sheets.specs.Refusing.{Rows, end, idle, live}
 use Rattle.sheets.proofs.Staged.{bind_ok, passed, ok_is}
 use Rattle.sheets.proofs.ToldKeys.{key_takes, one_key, line_key, row_fine, row_taken}
-use Rattle.sheets.proofs.ToldCodes.{Rest, rows_after, code_idle, code_live}
+use Rattle.sheets.proofs.ToldCodes.{Rest, code_idle, code_live}
 
 then_ok : (r : Option RowData) (rs : Rest) (rows : List (Option RowData)) → then_row r rs ≡ Ok rows → (others : List (Option RowData)) × (rs ≡ Ok others) × (r ∷ others ≡ rows)
 then_ok r rs rows h = let b = bind_ok rs (λ xs. Ok (r ∷ xs)) rows h in (b.0, b.1, ok_is (r ∷ b.0) rows b.2)

@@ -1,23 +1,23 @@
 -- A sheet whose first stages are fine is read on from there.
-use Rattle.std.proofs.Common.{◌≡◌, ◌≢◌, ℕ, zero, suc, ◌+◌, ◌*◌, ◌<◌, ◌≤◌, ◌⊎◌, inl, inr, leb, List, [], ◌∷◌, ◌++◌, length, take, get_or, Option, Ok, Err, Result, refl, ap, ◌∙◌, sym, subst, arith}
+use Rattle.std.proofs.Common.{◌≡◌, ◌≢◌, ℕ, ◌+◌, ◌*◌, ◌<◌, ◌≤◌, ◌⊎◌, inl, inr, leb, List, ◌++◌, length, take, get_or, Option, Ok, Err, Result, refl, ap, ◌∙◌, sym, subst, arith}
 use Rattle.std.specs.Prelude.{codes}
 use Rattle.std.proofs.lemmas.List.{take_all}
 use Rattle.std.proofs.lemmas.Bool.{le-leb, lt-leb}
 use Rattle.adders.specs.declared.refusals.Refusal.{Refusal}
-use Rattle.adders.specs.declared.refusals.Refusal.TheVariants.{SheetTooLong, InputUnselected}
+use Rattle.adders.specs.declared.refusals.Refusal.TheVariants.{SheetTooLong}
 use Rattle.ports.specs.declared.port.Port.{Port}
 use Rattle.ports.specs.declared.port.Port.TheVariants.{Output}
-use Rattle.ports.specs.Ports.{ports, nth_port}
+use Rattle.ports.specs.Ports.{ports}
 use Rattle.texts.specs.Text.{number_line}
 use Rattle.sheets.specs.Orders.{Orders, no_lines}
 use Rattle.sheets.specs.Data.{RowData, Said}
 use Rattle.sheets.specs.Sheets.{port_lines}
 use Rattle.sheets.specs.Stages.{◌>>=◌, if_passed}
-use Rattle.sheets.specs.Reader.{read_number, read_ports, read_codes, read_block, check_ports, read_sheet}
+use Rattle.sheets.specs.Reader.{read_number, read_ports, read_block, check_ports, read_sheet}
 use Rattle.sheets.specs.Refusing.{Begun, PortsBegun, AllPorts, CodesFine, CodeFault, Rows, Refused, too_long, in_adders, in_width, in_port, in_code, unselected}
 use Rattle.sheets.proofs.ToldNumbers.{number_read, number_refused}
-use Rattle.sheets.proofs.ToldOrder.{Fresh, proper, find_port, ports_count}
-use Rattle.sheets.proofs.ToldLines.{Fine, fine_from, overlay, kept_at, kept_else, ports_read, ports_refused}
+use Rattle.sheets.proofs.ToldOrder.{proper, find_port, ports_count}
+use Rattle.sheets.proofs.ToldLines.{Fine, fine_from, overlay, kept_at, kept_there, ports_read, ports_refused}
 use Rattle.sheets.proofs.ToldReached.{codes_refused}
 use Rattle.sheets.proofs.ToldRows.{rows_read}
 use Rattle.sheets.proofs.ToldSelected.{check_refused}
@@ -78,7 +78,7 @@ module _ (bytes : List ℕ) where
         where
           at : (q : Port) → ((k : ℕ) × (k < length (ports a)) × (get_or (ports a) k Output ≡ q)) ⊎ ((k : ℕ) → k < length (ports a) → get_or (ports a) k Output ≢ q) → overlay a orders (ports a) no_lines q ≡ orders q
           at q (inl found) = kept_at a orders (ports a) no_lines found.0 found.1 q found.2
-          at q (inr nowhere) = kept_else a orders (ports a) no_lines q (sym (h.others q (λ i l. nowhere i (omega (arith, places a)))))
+          at q (inr nowhere) = kept_there a orders (ports a) no_lines q (sym (h.others q (λ i l. nowhere i (omega (arith, places a)))))
 
       module _ (h : AllPorts bytes a w orders rest) where
         pub sheet_ports : read_sheet bytes ≡ after_ports a w (orders, rest)

@@ -6,4 +6,5 @@ mod limits;
 mod lists;
 mod reader;
 mod refusals;
+
 pub use refusals::refusals_are_told;
