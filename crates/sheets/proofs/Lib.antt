@@ -21,3 +21,15 @@ pub mod Complete
 pub mod Accepting
 pub mod SameSaid
 pub mod ReadOver
+pub mod ToldNumbers
+pub mod ToldRepeats
+pub mod ToldPorts
+pub mod ToldOrder
+pub mod ToldLines
+pub mod ToldKeys
+pub mod ToldCodes
+pub mod ToldReached
+pub mod ToldRows
+pub mod ToldSelected
+pub mod ToldStages
+pub mod Told

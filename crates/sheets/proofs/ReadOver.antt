@@ -7,6 +7,9 @@ use Rattle.blocks.specs.declared.model.Block.{Block}
 use Rattle.sheets.specs.Data.{said}
 use Rattle.sheets.specs.Reader.{read_sheet}
 use Rattle.sheets.specs.Sheets.{IsSheet}
+use Rattle.sheets.specs.Refusing.{Refused}
+use Rattle.sheets.specs.Calls.{ReadsBack}
+use Rattle.sheets.proofs.Told.{refusals_told}
 use Rattle.sheets.proofs.Staged.{ok_is, ok_not_err}
 use Rattle.sheets.proofs.Sound.{sound}
 use Rattle.sheets.proofs.Complete.{complete}
@@ -20,9 +23,18 @@ module _ (bytes : List ℕ) where
     pub only_block : (c : Block) → IsSheet bytes c → b ≡ c
     only_block c h = same_said b c (ok_is (said b) (said c) (sym read ∙ complete bytes c h))
 
+  -- what is turned down leaves the block as it was
+  pub turned_down : (e : Refusal) (b : Block) → read_sheet bytes ≡ Err e → Refused bytes e × (b ≡ b)
+  turned_down e b read = ((refusals_told bytes e).0 read, refl)
+
   pub no_sheet : (e : Refusal) → read_sheet bytes ≡ Err e → (c : Block) → IsSheet bytes c → ⊥
   no_sheet e read c h = ok_not_err (said c) e (sym (complete bytes c h) ∙ read)
 
 -- a sheet is a sheet of one block
 pub one_block : (bytes : List ℕ) (b c : Block) → IsSheet bytes b → IsSheet bytes c → b ≡ c
 one_block bytes b c h k = only_block bytes b (complete bytes b h) c k
+
+-- bytes that are a sheet of a block are read back as it over any block
+pub reads_back : (bytes : List ℕ) (b : Block) → IsSheet bytes b → ReadsBack bytes b
+reads_back bytes b h before (Ok tt) after k = (refl, one_block bytes after b k h)
+reads_back bytes b h before (Err e) after k = absurd (no_sheet bytes e ((refusals_told bytes e).1 k.0) b h)

@@ -10,4 +10,4 @@ mod reader;
 mod writer;
 
 pub use calls::{read, write};
-pub use laws::sheets_are_read;
+pub use laws::{refusals_are_told, sheets_are_read};

@@ -1,11 +1,13 @@
 use Rattle.std.proofs.Common.{◌≡◌, Ok, Err, sym, refl, ap, ◌∙◌}
 use Rattle.std.proofs.lemmas.Bool.{false≢true}
 use Rattle.std.proofs.lemmas.Result.{err_from_is_err_and}
-use Rattle.sheets.proofs.ReadOver.{is_sheet, only_block, no_sheet}
+use Rattle.sheets.proofs.ReadOver.{is_sheet, only_block, turned_down, no_sheet}
 use Rattle.sheets.proofs.calls.read.Goals as goal
 
 pub returns-in_err-block-clause-answer : goal.returns-in_err-block-clause-answer
-returns-in_err-block-clause-answer c = ?
+returns-in_err-block-clause-answer c =
+    let p = err_from_is_err_and c.from_residual.result c.from_residual.ensures.1 in
+    rw (p.1, p.2) (turned_down c.args.sheet.now c.in_err-block.field-0.0 c.args.block.now c.in_err-block.ensures)
 
 pub returns-in_err-block-clause-exactly : goal.returns-in_err-block-clause-exactly
 returns-in_err-block-clause-exactly c =
