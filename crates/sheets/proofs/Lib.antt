@@ -21,6 +21,8 @@ pub mod Complete
 pub mod Accepting
 pub mod SameSaid
 pub mod ReadOver
+pub mod Canonical
+pub mod Writes
 pub mod ToldNumbers
 pub mod ToldRepeats
 pub mod ToldPorts

@@ -74,7 +74,7 @@ selections_length orders j (x ∷ xs) = ap suc (selections_length orders (suc j)
 abbrev pub FewEach : Orders → Type 0
 FewEach orders = (p : Port) → length (orders p) ≤ 16
 
-small_entries : (orders : Orders) (j : ℕ) (xs : Slots) → FewEach orders → AllSmallEntries (selections_of orders j xs)
+pub small_entries : (orders : Orders) (j : ℕ) (xs : Slots) → FewEach orders → AllSmallEntries (selections_of orders j xs)
 small_entries orders j [] few = tt
 small_entries orders j (x ∷ xs) few = (one x, small_entries orders (suc j) xs few)
   where

@@ -1,0 +1,9 @@
+use Rattle.std.proofs.Common.{drop}
+use Rattle.ports.specs.Ports.{ports}
+use Rattle.ports.specs.Inputs.{inputs}
+use Rattle.sheets.specs.Sheets.{port_lines}
+use Rattle.sheets.proofs.Writes.{Finishes}
+use Rattle.sheets.proofs.writer.write_ports.Given as goal
+
+abbrev pub invariant-loop-place : goal.invariant-loop-place
+invariant-loop-place l = Finishes l.fn.text (port_lines (inputs l.fn.block) (ports l.fn.block.adders)) l.text (port_lines (inputs l.fn.block) (drop l.place (ports l.fn.block.adders)))
