@@ -1,17 +1,17 @@
 -- The order in which a port's inputs are written.
-use Rattle.std.proofs.Common.{◌≡◌, ℕ, zero, suc, ◌≤◌, List, [], ◌∷◌, get_or, refl}
+use Rattle.std.proofs.Common.{ℕ, zero, suc, ◌≤◌, List, [], ◌∷◌, get_or, refl}
 use Rattle.adders.specs.declared.wiring.Operand.{Operand}
 use Rattle.blocks.specs.declared.model.Block.{Block}
 use Rattle.ports.specs.declared.port.Port.{Port}
 use Rattle.ports.specs.declared.port.Port.TheVariants.{Output}
 use Rattle.ports.specs.Ports.{ports, nth_port}
-use Rattle.ports.specs.Inputs.{inputs, Among, Ascends}
+use Rattle.ports.specs.Inputs.{inputs, Ascends}
 use Rattle.ports.proofs.Ascending.{before_irrefl, inputs_law}
 use Rattle.texts.specs.Laws.{SmallPort}
-use Rattle.sheets.specs.Repeats.{Once}
-use Rattle.sheets.specs.Sheets.{InputsInOrder, IsSheet}
+use Rattle.reading.specs.Repeats.{Once}
+use Rattle.sheetlaws.specs.Sheets.{InputsInOrder, IsSheet}
 use Rattle.sheets.specs.Calls.{written_sheet}
-use Rattle.sheets.proofs.PortsAgain.{SmallPorts, small_ports}
+use Rattle.sheetlaws.proofs.PortsAgain.{SmallPorts, small_ports}
 
 ascending_once : (os : List Operand) → Ascends os → Once os
 ascending_once [] a = tt

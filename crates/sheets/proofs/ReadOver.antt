@@ -1,19 +1,17 @@
 -- What reading over a block answers.
-use Rattle.std.proofs.Common.{◌≡◌, ℕ, List, Ok, Err, true, false, Decides, Result, sym, refl, ap, ◌∙◌, subst}
-use Rattle.std.specs.Prelude.{is_ok}
-use Rattle.std.proofs.lemmas.Bool.{false≢true}
+use Rattle.std.proofs.Common.{◌≡◌, ℕ, List, Ok, Err, sym, refl, ◌∙◌}
 use Rattle.adders.specs.declared.refusals.Refusal.{Refusal}
 use Rattle.blocks.specs.declared.model.Block.{Block}
-use Rattle.sheets.specs.Data.{said}
-use Rattle.sheets.specs.Reader.{read_sheet}
-use Rattle.sheets.specs.Sheets.{IsSheet}
-use Rattle.sheets.specs.Refusing.{Refused}
+use Rattle.reading.specs.Data.{said}
+use Rattle.reading.specs.Reader.{read_sheet}
+use Rattle.sheetlaws.specs.Sheets.{IsSheet}
+use Rattle.sheetlaws.specs.Refusing.{Refused}
 use Rattle.sheets.specs.Calls.{ReadsBack}
-use Rattle.sheets.proofs.Told.{refusals_told}
-use Rattle.sheets.proofs.Staged.{ok_is, ok_not_err}
-use Rattle.sheets.proofs.Sound.{sound}
-use Rattle.sheets.proofs.Complete.{complete}
-use Rattle.sheets.proofs.SameSaid.{same_said}
+use Rattle.sheetlaws.proofs.Told.{refusals_told}
+use Rattle.reading.proofs.Staged.{ok_is, ok_not_err}
+use Rattle.sheetlaws.proofs.Sound.{sound}
+use Rattle.sheetlaws.proofs.Complete.{complete}
+use Rattle.sheetlaws.proofs.SameSaid.{same_said}
 
 module _ (bytes : List ℕ) where
   module _ (b : Block) (read : read_sheet bytes ≡ Ok (said b)) where

@@ -1,9 +1,9 @@
 -- The lines of a sheet, written one after another.
-use Rattle.std.proofs.Common.{◌≡◌, ℕ, zero, suc, ◌+◌, ◌*◌, ◌<◌, ◌≤◌, List, [], ◌∷◌, ◌++◌, length, take, drop, get_or, cond, Some, None, Option, Ok, Err, Result, sym, refl, ap, ◌∙◌, subst, append-nil, arith}
+use Rattle.std.proofs.Common.{◌≡◌, ℕ, zero, suc, ◌+◌, ◌*◌, ◌<◌, ◌≤◌, List, [], ◌∷◌, ◌++◌, length, take, drop, cond, Some, None, Option, Ok, Err, Result, sym, refl, ap, ◌∙◌, subst, arith}
 use Rattle.std.specs.Prelude.{codes, option_map, IfOk}
 use Rattle.std.proofs.lemmas.Bool.{le-leb}
 use Rattle.std.proofs.Math.Seq.{take-append_seam}
-use Rattle.std.proofs.lemmas.List.{drop_more, drop_all, length-append}
+use Rattle.std.proofs.lemmas.List.{drop_more, drop_all}
 use Rattle.adders.specs.declared.refusals.Refusal.{Refusal}
 use Rattle.adders.specs.declared.wiring.Operand.{Operand}
 use Rattle.adders.specs.declared.refusals.Refusal.TheVariants.{CodeAboveFifteen}
@@ -23,16 +23,16 @@ use Rattle.texts.specs.Text.{number_line, port_line, code_line, AllSmall, AllSma
 use Rattle.texts.specs.Laws.{SmallPort}
 use Rattle.writing.specs.Writes.{Wrote, Written}
 use Rattle.writing.proofs.Joins.{joined, nothing}
-use Rattle.sheets.specs.Orders.{Orders}
-use Rattle.sheets.specs.Data.{RowData, data_of, rows_of, said}
-use Rattle.sheets.specs.Sheets.{place, selection_of, selections_of, port_lines, row_line, row_lines, sheet_text}
+use Rattle.reading.specs.Orders.{Orders}
+use Rattle.reading.specs.Data.{data_of, rows_of}
+use Rattle.sheetlaws.specs.Sheets.{place, selection_of, selections_of, port_lines, row_line, row_lines}
 use Rattle.sheets.specs.Calls.{written_sheet, ReadsBack}
-use Rattle.sheets.proofs.PortOrder.{next_port, no_port}
-use Rattle.sheets.proofs.Placed.{place_few}
-use Rattle.sheets.proofs.Counted.{all_small, few_inputs}
-use Rattle.sheets.proofs.RowByRow.{rows_at, rows_length}
-use Rattle.sheets.proofs.RowsAgain.{FewEach, small_entries}
-use Rattle.sheets.proofs.Sizes.{sheet_length}
+use Rattle.reading.proofs.PortOrder.{next_port, no_port}
+use Rattle.sheetlaws.proofs.Placed.{place_few}
+use Rattle.sheetlaws.proofs.Counted.{all_small, few_inputs}
+use Rattle.reading.proofs.RowByRow.{rows_at, rows_length}
+use Rattle.sheetlaws.proofs.RowsAgain.{FewEach, small_entries}
+use Rattle.sheetlaws.proofs.Sizes.{sheet_length}
 use Rattle.sheets.proofs.Canonical.{canonical, is_sheet, small_nth}
 use Rattle.sheets.proofs.ReadOver.{reads_back}
 

@@ -1,11 +1,11 @@
 -- Writing and reading a sheet.
-use Rattle.std.specs.Prelude.{◌≡◌, ℕ, List, take, Ok, Err, Result}
+use Rattle.std.specs.Prelude.{◌≡◌, ℕ, List, Ok, Err, Result}
 use Rattle.adders.specs.declared.refusals.Refusal.{Refusal}
 use Rattle.blocks.specs.declared.model.Block.{Block}
 use Rattle.ports.specs.Inputs.{inputs}
-use Rattle.sheets.specs.Data.{said}
-use Rattle.sheets.specs.Sheets.{sheet_text, IsSheet}
-use Rattle.sheets.specs.Refusing.{Refused}
+use Rattle.reading.specs.Data.{said}
+use Rattle.sheetlaws.specs.Sheets.{sheet_text, IsSheet}
+use Rattle.sheetlaws.specs.Refusing.{Refused}
 
 -- the sheet of a block that is written: each port's inputs ascend by source and then by shift
 abbrev pub written_sheet : Block → List ℕ

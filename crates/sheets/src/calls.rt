@@ -1,14 +1,14 @@
 // Writing a block's sheet, and reading one over a block.
 ghost use Rattle.std.specs.Prelude.{◌≡◌, ◌≤◌, length, take, is_ok, Decides, IfOk, Ok};
 ghost use Rattle.blocks.specs.declared.model.Block.{Block};
-ghost use Rattle.sheets.specs.Sheets.{IsSheet};
+ghost use Rattle.sheetlaws.specs.Sheets.{IsSheet};
 ghost use Rattle.sheets.specs.Calls.{written_sheet, ReadOver, ReadsBack};
 ghost use Rattle.writing.specs.Writes.{Written};
 
-use crate::reader::read_block;
 use crate::writer::sheet_of;
 use adders::Refusal;
 use blocks::Block;
+use reading::read_block;
 
 // Writes the sheet of a block to the front of a buffer, and answers its length, which at most 4,096 bytes always hold.
 pub fn write(block: &Block, buffer: &mut [u8]) -> Result<usize, Refusal>

@@ -1,13 +1,7 @@
-// The wiring sheet of a block: read, judged and written.
+// The wiring sheet of a block, written and read.
 #![tactic(auto)]
 
 mod calls;
-mod codes;
-mod laws;
-mod limits;
-mod lists;
-mod reader;
 mod writer;
 
 pub use calls::{read, write};
-pub use laws::{refusals_are_told, sheets_are_read};

@@ -3,8 +3,8 @@ ghost use Rattle.std.specs.Prelude.{◌≡◌, ◌≤◌, length};
 ghost use Rattle.adders.specs.declared.wiring.Adder.{Adder};
 ghost use Rattle.ports.specs.Inputs.{inputs};
 ghost use Rattle.ports.specs.Ports.{ports};
-ghost use Rattle.sheets.specs.Data.{rows_of, data_of};
-ghost use Rattle.sheets.specs.Sheets.{place, selection_of, selections_of, port_lines, row_lines};
+ghost use Rattle.reading.specs.Data.{rows_of, data_of};
+ghost use Rattle.sheetlaws.specs.Sheets.{place, selection_of, selections_of, port_lines, row_lines};
 ghost use Rattle.sheets.specs.Calls.{written_sheet};
 ghost use Rattle.writing.specs.Writes.{Wrote};
 
@@ -28,7 +28,7 @@ fn place(input: Operand, inputs: &[Operand]) -> usize
 }
 
 // The number of an operand among the inputs of a port.
-#[tactic(auto, using(crate::proofs::Placed::place_few))]
+#[tactic(auto, using(crate::proofs::Selecting::number_few))]
 fn number_at(block: &Block, port: Port, operand: Operand) -> u8
     ensures { result ≡ place operand (inputs block.now port) }
 {

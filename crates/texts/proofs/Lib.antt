@@ -5,3 +5,4 @@ pub mod Following
 pub mod Again
 pub mod Entering
 pub mod Lines
+pub mod Lengths

@@ -1,5 +1,5 @@
 use Rattle.std.proofs.Common.{◌≡◌, ◌+◌, drop}
-use Rattle.sheets.specs.Sheets.{place}
+use Rattle.sheetlaws.specs.Sheets.{place}
 use Rattle.sheets.proofs.writer.place.Given as goal
 
 abbrev pub invariant-loop-number : goal.invariant-loop-number

@@ -1,6 +1,6 @@
 use Rattle.std.proofs.Common.{◌+◌, get_or, set, None, sym, ap, ◌∙◌, subst}
 use Rattle.ports.specs.Inputs.{inputs}
-use Rattle.sheets.specs.Sheets.{selection_of}
+use Rattle.sheetlaws.specs.Sheets.{selection_of}
 use Rattle.sheets.proofs.Selecting.{Selected, one_selected, all_selected}
 use Rattle.sheets.proofs.writer.selections.Goals as goal
 

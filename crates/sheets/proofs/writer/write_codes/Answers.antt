@@ -1,7 +1,7 @@
 use Rattle.std.proofs.Common.{ap, ◌∙◌}
 use Rattle.ports.specs.declared.port.Port.TheVariants.{Output}
 use Rattle.ports.specs.Inputs.{inputs}
-use Rattle.sheets.specs.Sheets.{place}
+use Rattle.sheetlaws.specs.Sheets.{place}
 use Rattle.sheets.proofs.Writes.{idle_written, idle_code, line_written, codes_written}
 use Rattle.sheets.proofs.writer.write_codes.Goals as goal
 use Rattle.sheets.proofs.writer.write_codes.Goals.{in-Ok, in_default}

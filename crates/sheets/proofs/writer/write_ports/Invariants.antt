@@ -1,7 +1,7 @@
 use Rattle.std.proofs.Common.{drop}
 use Rattle.ports.specs.Ports.{ports}
 use Rattle.ports.specs.Inputs.{inputs}
-use Rattle.sheets.specs.Sheets.{port_lines}
+use Rattle.sheetlaws.specs.Sheets.{port_lines}
 use Rattle.sheets.proofs.Writes.{Finishes}
 use Rattle.sheets.proofs.writer.write_ports.Given as goal
 

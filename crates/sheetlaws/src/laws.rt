@@ -1,0 +1,13 @@
+// What holds of every sheet.
+ghost use Rattle.sheetlaws.specs.SheetLaws.{SheetsAreRead, RefusalsAreTold};
+
+// Bytes are accepted exactly if they are a sheet of some block, and as that block.
+pub fn sheets_are_read()
+    ensures { SheetsAreRead }
+{}
+
+// The reader's refusal is the first cause, line by line, and no other is.
+#[tactic(auto, using(crate::proofs::Told::refusals_told))]
+pub fn refusals_are_told()
+    ensures { RefusalsAreTold }
+{}

@@ -1,0 +1,6 @@
+// What a wiring sheet is, why bytes are none, and that the reader says so.
+#![tactic(auto)]
+
+mod laws;
+
+pub use laws::{refusals_are_told, sheets_are_read};
