@@ -1,9 +1,9 @@
 -- Every sheet is accepted, as its block.
-use Rattle.std.proofs.Common.{◌≡◌, ℕ, zero, suc, ◌+◌, ◌*◌, ◌≤◌, true, false, cond, ◌&&◌, List, [], ◌∷◌, ◌++◌, length, drop, get_or, is_some, Some, None, Option, Ok, Err, sym, refl, ap, ◌∙◌, subst, inl, inr, arith}
-use Rattle.std.specs.Prelude.{codes, option_map, is_none}
-use Rattle.std.specs.List.{list_all, list_any}
-use Rattle.std.proofs.lemmas.Bool.{le-leb, false≢true}
-use Rattle.adders.specs.declared.refusals.Refusal.TheVariants.{SheetTooLong, InputUnselected}
+use Rattle.std.proofs.Common.{◌≡◌, ◌≢◌, ℕ, zero, suc, ◌+◌, ◌*◌, ◌≤◌, true, false, cond, ◌&&◌, List, [], ◌∷◌, ◌++◌, drop, get_or, is_some, Some, None, Option, Ok, Err, sym, refl, ap, ◌∙◌, subst, inl, inr, arith}
+use Rattle.std.specs.Prelude.{option_map, is_none}
+use Rattle.std.specs.List.{list_all}
+use Rattle.std.proofs.lemmas.Bool.{false≢true}
+use Rattle.adders.specs.declared.refusals.Refusal.TheVariants.{InputUnselected}
 use Rattle.adders.specs.declared.wiring.Adder.{Adder}
 use Rattle.adders.specs.declared.wiring.Operand.{Operand}
 use Rattle.adders.specs.Values.{Slots}
@@ -16,26 +16,25 @@ use Rattle.blocks.specs.Uses.{row_uses}
 use Rattle.blocks.specs.Blocks.{row_of}
 use Rattle.ports.specs.declared.port.Port.{Port}
 use Rattle.ports.specs.declared.port.Port.TheVariants.{Left, Right, Output}
-use Rattle.ports.specs.Ports.{ports, left_of, right_of, put_at}
+use Rattle.ports.specs.Ports.{ports, nth_port, left_of, right_of, put_at}
 use Rattle.ports.specs.Inputs.{Among}
 use Rattle.ports.proofs.Ascending.{inputs_law}
-use Rattle.texts.specs.Text.{number_line}
 use Rattle.texts.proofs.Takes.{some_is}
-use Rattle.reading.specs.Orders.{Orders, same_port, no_lines}
+use Rattle.reading.specs.Orders.{Orders}
 use Rattle.reading.specs.Data.{RowData, data_of, rows_of, said}
-use Rattle.reading.specs.Stages.{◌>>=◌, if_passed}
+use Rattle.reading.specs.Stages.{◌>>=◌}
 use Rattle.reading.specs.Reader.{data_inputs, all_selected, check_ports, read_codes, read_sheet, read_block}
+use Rattle.sheetlaws.specs.Refusing.{PortFine, AllPorts}
 use Rattle.sheetlaws.specs.Sheets.{port_lines, row_lines, sheet_text, InputsInOrder, IsSheet}
 use Rattle.reading.proofs.Repeated.{among_any}
 use Rattle.reading.proofs.Selected.{same_inputs}
 use Rattle.sheetlaws.proofs.Rowed.{put_there}
 use Rattle.sheetlaws.proofs.Counted.{few_inputs, in_limits, all_small}
-use Rattle.sheetlaws.proofs.PortsAgain.{Fine, number_again, small_ports, ports_again}
 use Rattle.reading.proofs.RowByRow.{rows_at, rows_length}
 use Rattle.sheetlaws.proofs.RowsRead.{slot_is}
 use Rattle.sheetlaws.proofs.RowsAgain.{RowFits, FewEach, codes_again}
 use Rattle.sheetlaws.proofs.Sizes.{sheet_length}
-use Rattle.sheetlaws.proofs.Sound.{checking, coding, listing, widening, beginning}
+use Rattle.sheetlaws.proofs.ToldStages.{after_block, all_taken, sheet_ports}
 
 none_past : (xs : Slots) (n : ℕ) → ((k : ℕ) → n ≤ k → get_or xs k None ≡ None) → list_all is_none (drop n xs) ≡ true
 none_past [] zero f = refl
@@ -51,16 +50,16 @@ module _ (b : Block) (orders : Orders) (ordered : (p : Port) → InputsInOrder b
   few : FewEach orders
   few p = few_inputs b p (orders p) (ordered p)
 
-  fine : (p : Port) → Fine b.adders p (orders p)
+  fine : (p : Port) → PortFine b.adders p (orders p)
   fine p = record { small = all_small b p (orders p) (ordered p); limits = in_limits b p (orders p) (ordered p); once = (ordered p).once }
 
   -- a port that the block has not has no inputs
-  no_inputs : (q : Port) → list_any (same_port q) (ports b.adders) ≡ false → no_lines q ≡ orders q
+  no_inputs : (q : Port) → ((i : ℕ) → i ≤ 2 * b.adders → nth_port b.adders i ≢ q) → orders q ≡ []
   no_inputs q out = by (orders q) refl
     where
-      by : (os : List Operand) → orders q ≡ os → [] ≡ orders q
-      by [] e = sym e
-      by (o ∷ os) e = absurd (false≢true (sym out ∙ (put_there b q o ((ordered q).only o (subst (Among o) (sym e) (inl refl)))).listed))
+      by : (os : List Operand) → orders q ≡ os → orders q ≡ []
+      by [] e = e
+      by (o ∷ os) e = let t = (put_there b q o ((ordered q).only o (subst (Among o) (sym e) (inl refl)))).listed in absurd (out t.0 (omega (arith, t.1)) t.2)
 
   row_fits : (code : ℕ) (r : Row) → row_of b code ≡ Some r → RowFits orders b.adders (data_of r)
   row_fits code r here = record {
@@ -106,20 +105,25 @@ module _ (b : Block) (orders : Orders) (ordered : (p : Port) → InputsInOrder b
       let fit = codes_again orders b.adders b.few few 0 n (rows_of b) (omega (arith, rows_length b)) each_fits in
       subst (λ k. read_codes orders b.adders k 0 n (row_lines orders b.adders 0 (rows_of b)) ≡ Ok (rows_of b)) (rows_length b) fit
 
+  -- all lines of the ports
+  all_ports : AllPorts (sheet_text orders (said b)) b.adders b.width orders (row_lines orders b.adders 0 (rows_of b))
+  all_ports = record {
+    begun = record {
+      text = port_lines orders (ports b.adders) ++ row_lines orders b.adders 0 (rows_of b);
+      begun = record { short = sheet_length orders b few; few = b.few; some_bits = b.some_bits; few_bits = b.few_bits; text_is = refl };
+      lines = ap (λ ps. port_lines orders ps ++ row_lines orders b.adders 0 (rows_of b)) (sym (all_taken b.adders));
+      fine = λ i h. fine (nth_port b.adders i);
+    };
+    others = no_inputs;
+  }
+
   pub read_again : read_sheet (sheet_text orders (said b)) ≡ Ok (said b)
-  unfolding read_sheet read_block
+  unfolding read_block
   read_again =
-      let a = b.adders in
-      let codes_text = row_lines orders a 0 (rows_of b) in
-      let ports_text = port_lines orders (ports a) ++ codes_text in
-      let width_text = number_line (codes "width=") b.width ++ ports_text in
-      let text = sheet_text orders (said b) in
-      ap (λ t. if_passed t SheetTooLong text >>= beginning) (le-leb (length text) 4096 (sheet_length orders b few))
-      ∙ ap (λ r. r >>= widening) (number_again (codes "adders=") 0 8 1 a width_text (omega arith) b.few (omega (arith, b.few)))
-      ∙ ap (λ r. r >>= listing (a, width_text)) (number_again (codes "width=") 1 32 2 b.width ports_text b.some_bits b.few_bits (omega (arith, b.few_bits)))
-      ∙ ap (λ r. r >>= coding (a, width_text) (b.width, ports_text)) (ports_again a 3 (ports a) no_lines orders codes_text (small_ports a b.few) fine no_inputs)
-      ∙ ap (λ r. (r >>= λ rows. Ok (record { adders = a; width = b.width; rows = rows })) >>= checking (orders, codes_text)) (rows_again (2 * a + 4))
-      ∙ ap (λ r. r >>= λ selected. Ok (said b)) (all_checked 3 (ports a))
+      let rows = row_lines orders b.adders 0 (rows_of b) in
+      sheet_ports (sheet_text orders (said b)) b.adders b.width orders rows all_ports
+      ∙ ap (λ r. (r >>= λ rows. Ok (record { adders = b.adders; width = b.width; rows = rows })) >>= after_block orders) (rows_again (2 * b.adders + 4))
+      ∙ ap (λ r. r >>= λ selected. Ok (said b)) (all_checked 3 (ports b.adders))
 
 pub complete : (bytes : List ℕ) (b : Block) → IsSheet bytes b → read_sheet bytes ≡ Ok (said b)
 complete bytes b h = ap read_sheet h.text ∙ read_again b h.orders h.ordered

@@ -1,15 +1,9 @@
 pub mod Placed
-pub mod PortsRead
 pub mod RowsRead
 pub mod Rowed
 pub mod Counted
-pub mod PortsAgain
 pub mod RowsAgain
-pub mod Sound
 pub mod Sizes
-pub mod Complete
-pub mod Accepting
-pub mod SameSaid
 pub mod ToldNumbers
 pub mod ToldRepeats
 pub mod ToldPorts
@@ -22,3 +16,7 @@ pub mod ToldRows
 pub mod ToldSelected
 pub mod ToldStages
 pub mod Told
+pub mod Sound
+pub mod Complete
+pub mod Accepting
+pub mod SameSaid

@@ -1,7 +1,6 @@
 -- What the live rows of a block put at its ports.
-use Rattle.std.proofs.Common.{◌≡◌, ℕ, zero, suc, ◌+◌, ◌-◌, ◌<◌, ◌≤◌, Bool, true, false, ◌||◌, ◌∷◌, length, is_some, Some, None, Option, sym, refl, ap, ◌∙◌, subst, ⊎_elim, arith}
-use Rattle.std.specs.List.{list_any}
-use Rattle.std.proofs.lemmas.Bool.{cases_lt, cases_eq, eq-eqb, false≢true}
+use Rattle.std.proofs.Common.{get_or, ◌≡◌, ℕ, zero, suc, ◌+◌, ◌-◌, ◌*◌, ◌<◌, ◌≤◌, true, length, is_some, Some, None, Option, sym, refl, ap, ◌∙◌, subst, ⊎_elim, arith}
+use Rattle.std.proofs.lemmas.Bool.{cases_lt, cases_eq, false≢true}
 use Rattle.adders.specs.declared.wiring.Adder.{Adder}
 use Rattle.adders.specs.declared.wiring.Operand.{Operand}
 use Rattle.adders.proofs.Broken.{some_none}
@@ -14,35 +13,28 @@ use Rattle.blocks.specs.Uses.{row_uses}
 use Rattle.blocks.specs.Blocks.{row_of}
 use Rattle.ports.specs.declared.port.Port.{Port}
 use Rattle.ports.specs.declared.port.Port.TheVariants.{Left, Right, Output}
-use Rattle.ports.specs.Ports.{left_of, right_of, ports_from, ports, put_at}
+use Rattle.ports.specs.Ports.{left_of, right_of, ports_from, nth_port, put_at}
 use Rattle.ports.specs.Inputs.{Selected}
 use Rattle.texts.proofs.Takes.{some_is}
-use Rattle.reading.specs.Orders.{same_port}
 use Rattle.reading.specs.Reader.{bound}
 use Rattle.sheetlaws.proofs.RowsRead.{slot_is}
 
--- the ports of a block
-or_true : (b c : Bool) → c ≡ true → (b || c) ≡ true
-or_true true c e = refl
-or_true false c e = e
-
-listed_sides : (n j i : ℕ) → j ≤ i → i < j + n → (list_any (same_port (Left i)) (ports_from j n) ≡ true) × (list_any (same_port (Right i)) (ports_from j n) ≡ true)
-listed_sides zero j i low high = absurd (omega arith)
-listed_sides (suc n) j i low high =
-    ⊎_elim {C = (list_any (same_port (Left i)) (ports_from j (suc n)) ≡ true) × (list_any (same_port (Right i)) (ports_from j (suc n)) ≡ true)}
-    (λ e. let t = eq-eqb i j e in (ap (λ b. b || list_any (same_port (Left i)) (Right j ∷ ports_from (suc j) n)) t, ap (λ b. b || list_any (same_port (Right i)) (ports_from (suc j) n)) t))
-    (λ ne.
-    let l = listed_sides n (suc j) i (omega (arith, ne)) (omega arith) in
-    (or_true (same_port (Left i) (Left j)) (list_any (same_port (Left i)) (Right j ∷ ports_from (suc j) n)) l.0, or_true (same_port (Right i) (Right j)) (list_any (same_port (Right i)) (ports_from (suc j) n)) l.1))
+-- the ports of an adder that the block has
+sides_there : (n j i : ℕ) → j ≤ i → i < j + n → ((k : ℕ) × (k < 2 * n + 1) × (get_or (ports_from j n) k Output ≡ Left i)) × ((k : ℕ) × (k < 2 * n + 1) × (get_or (ports_from j n) k Output ≡ Right i))
+sides_there zero j i low high = absurd (omega arith)
+sides_there (suc n) j i low high =
+    ⊎_elim {C = ((k : ℕ) × (k < 2 * suc n + 1) × (get_or (ports_from j (suc n)) k Output ≡ Left i)) × ((k : ℕ) × (k < 2 * suc n + 1) × (get_or (ports_from j (suc n)) k Output ≡ Right i))}
+    (λ e. ((0, omega arith, ap Left (sym e)), (1, omega arith, ap Right (sym e))))
+    (λ ne. let l = sides_there n (suc j) i (omega (arith, ne)) (omega arith) in ((suc (suc l.0.0), omega (arith, l.0.1), l.0.2), (suc (suc l.1.0), omega (arith, l.1.1), l.1.2)))
     (cases_eq i j)
 
-listed_output : (n j : ℕ) → list_any (same_port Output) (ports_from j n) ≡ true
-listed_output zero j = refl
-listed_output (suc n) j = listed_output n (suc j)
+output_there : (n j : ℕ) → get_or (ports_from j n) (2 * n) Output ≡ Output
+output_there zero j = refl
+output_there (suc n) j = let e : 2 * suc n ≡ suc (suc (2 * n)) = omega arith in ap (λ k. get_or (ports_from j (suc n)) k Output) e ∙ output_there n (suc j)
 
 -- an operand that a live row puts at a port
 pub record PutThere (b : Block) (p : Port) (o : Operand) : Type 0 where
-  pub listed : list_any (same_port p) (ports b.adders) ≡ true
+  pub listed : (k : ℕ) × (k < 2 * b.adders + 1) × (nth_port b.adders k ≡ p)
   pub lower : o.source < bound b.adders p
   pub low : o.source ≤ 8
   pub shift : o.shift ≤ 30
@@ -77,16 +69,16 @@ module _ (b : Block) (code : ℕ) (r : Row) (here : row_of b code ≡ Some r) wh
       let t = there r j x.0 x.1 in
       let s = ((row_keeps r).adders (j - 1) x.0 t.slot).left in
       let few = within j (ap is_some x.1) in
-      subst (PutThere b (Left j)) x.2 (record { listed = (listed_sides b.adders 1 j t.low (omega arith)).0; lower = omega (arith, s.lower, t.low); low = omega (arith, s.lower, t.low, t.high); shift = s.shift })
+      subst (PutThere b (Left j)) x.2 (record { listed = (sides_there b.adders 1 j t.low (omega arith)).0; lower = omega (arith, s.lower, t.low); low = omega (arith, s.lower, t.low, t.high); shift = s.shift })
   put (Right j) o e =
       let x = right_is (adder_at r j) o e in
       let t = there r j x.0 x.1 in
       let s = ((row_keeps r).adders (j - 1) x.0 t.slot).right in
       let few = within j (ap is_some x.1) in
-      subst (PutThere b (Right j)) x.2 (record { listed = (listed_sides b.adders 1 j t.low (omega arith)).1; lower = omega (arith, s.lower, t.low); low = omega (arith, s.lower, t.low, t.high); shift = s.shift })
+      subst (PutThere b (Right j)) x.2 (record { listed = (sides_there b.adders 1 j t.low (omega arith)).1; lower = omega (arith, s.lower, t.low); low = omega (arith, s.lower, t.low, t.high); shift = s.shift })
   put Output o e =
       subst (PutThere b Output) (some_is r.output o e)
-      (record { listed = listed_output b.adders 1; lower = omega (arith, output_within); low = omega (arith, (row_keeps r).source, r.room); shift = (row_keeps r).shift })
+      (record { listed = (2 * b.adders, omega arith, output_there b.adders 1); lower = omega (arith, output_within); low = omega (arith, (row_keeps r).source, r.room); shift = (row_keeps r).shift })
 
 pub put_there : (b : Block) (p : Port) (o : Operand) → Selected b p o → PutThere b p o
 put_there b p o s = by (row_of b s.0) refl s.1

@@ -14,7 +14,8 @@ use Rattle.reading.specs.Reader.{read_row, then_row, read_codes}
 use Rattle.sheetlaws.specs.Refusing.{CodeLine, CodeFault, form, absent, broken, CodesFine, none, next}
 use Rattle.reading.proofs.Staged.{ok_not_err}
 use Rattle.sheetlaws.proofs.ToldNumbers.{bind_err, not_passed}
-use Rattle.sheetlaws.proofs.ToldKeys.{key_takes, line_key, row_told, row_fine}
+use Rattle.texts.proofs.Skips.{skip_takes}
+use Rattle.sheetlaws.proofs.ToldKeys.{line_key, row_told, row_fine}
 
 abbrev pub Rest : Type 0
 Rest = Result (List (Option RowData)) Refusal
@@ -79,7 +80,7 @@ module _ (orders : Orders) (a : ℕ) where
       by (Some after) live others = row (bind_err _ _ e (sym (code_live k c n text after live) ∙ h))
         where
           text_is : text ≡ code_key c ++ after
-          text_is = key_takes (code_key c) text after live
+          text_is = skip_takes (code_key c) text after live
 
           row : (read_row orders a n after ≡ Err e) ⊎ ((x : RowData × List ℕ) × (read_row orders a n after ≡ Ok x) × (then_row (Some x.0) (read_codes orders a k (suc c) (suc n) x.1) ≡ Err e)) → CodeStop c n text e
           row (inl stops) = record { code = c; line = n; rest = text; before = none; fault = row_told orders a c n text after e (omega arith) text_is stops }

@@ -1,6 +1,5 @@
 -- The key of a code line, and what stands after it.
-use Rattle.std.proofs.Common.{◌≡◌, ℕ, ◌+◌, ◌/◌, ◌%◌, ◌≤◌, ◌⊎◌, inl, inr, Bool, true, false, cond, eqb, List, [], ◌∷◌, ◌++◌, Some, None, Option, Ok, Err, Result, refl, ap, ◌∙◌, sym, subst, arith}
-use Rattle.std.proofs.lemmas.Bool.{eqb-true, eq-eqb}
+use Rattle.std.proofs.Common.{◌≡◌, ℕ, ◌+◌, ◌/◌, ◌%◌, ◌≤◌, ◌⊎◌, inl, inr, List, [], ◌++◌, Some, None, Option, Ok, Err, Result, refl, ap, ◌∙◌, sym, subst, arith}
 use Rattle.adders.specs.declared.refusals.Refusal.{Refusal}
 use Rattle.adders.specs.declared.refusals.Refusal.TheVariants.{SheetForm, InputAbsent, RowBroken}
 use Rattle.adders.specs.Rules.{first_broken}
@@ -10,6 +9,7 @@ use Rattle.texts.specs.declared.selection.Selection.{Selection}
 use Rattle.texts.specs.Text.{code_key, selections}
 use Rattle.texts.specs.Pieces.{skip, selections_at}
 use Rattle.texts.specs.Listings.{eight_places}
+use Rattle.texts.proofs.Skips.{skip_again}
 use Rattle.texts.proofs.Takes.{selections_take}
 use Rattle.texts.proofs.Again.{selections_again}
 use Rattle.reading.specs.Orders.{Orders}
@@ -21,19 +21,6 @@ use Rattle.sheetlaws.specs.Refusing.{CodeLine, CodeFault, form, absent, broken, 
 use Rattle.reading.proofs.Staged.{ok_not_err, there, row_read}
 use Rattle.sheetlaws.proofs.ToldNumbers.{err_is, bind_err, not_there}
 
-pub key_again : (key rest : List ℕ) → skip key (key ++ rest) ≡ Some rest
-key_again [] rest = refl
-key_again (k ∷ ks) rest = ap (λ b. cond b (skip ks (ks ++ rest)) None) (eq-eqb k k refl) ∙ key_again ks rest
-
-pub key_takes : (key text rest : List ℕ) → skip key text ≡ Some rest → text ≡ key ++ rest
-key_takes [] text rest e = cc
-key_takes (k ∷ ks) [] rest e = absurd (some_none (sym e))
-key_takes (k ∷ ks) (b ∷ bs) rest e = by (eqb k b) refl e (key_takes ks bs rest)
-  where
-    by : (t : Bool) → eqb k b ≡ t → cond t (skip ks bs) None ≡ Some rest → (skip ks bs ≡ Some rest → bs ≡ ks ++ rest) → b ∷ bs ≡ k ∷ (ks ++ rest)
-    by true same h f = let e = f h in let g = eqb-true k b same in cc
-    by false same h f = absurd (some_none (sym h))
-
 -- a text begins with the key of one code at most
 pub one_key : (c d : ℕ) (s t : List ℕ) → code_key c ++ s ≡ code_key d ++ t → (c ≡ d) × (s ≡ t)
 one_key c d s t e =
@@ -44,7 +31,7 @@ one_key c d s t e =
 
 module _ (a c : ℕ) (text : List ℕ) where
   pub line_key : (es : List (Option Selection)) (out : ℕ) (rest : List ℕ) → CodeLine a c text es out rest → skip (code_key c) text ≡ Some (selections es out ++ rest)
-  line_key es out rest line = ap (skip (code_key c)) line.text_is ∙ key_again (code_key c) (selections es out ++ rest)
+  line_key es out rest line = ap (skip (code_key c)) line.text_is ∙ skip_again (code_key c) (selections es out ++ rest)
 
   pub line_read : (es : List (Option Selection)) (out : ℕ) (rest : List ℕ) → CodeLine a c text es out rest → selections_at a (selections es out ++ rest) ≡ Some ((es, out), rest)
   line_read es out rest line = ap (λ n. selections_at n (selections es out ++ rest)) (sym line.each) ∙ selections_again es out rest line.small line.small_output

@@ -11,7 +11,8 @@ use Rattle.reading.specs.Stages.{◌>>=◌, or_refused, if_passed}
 use Rattle.reading.specs.Reader.{read_row, select_row, then_row, read_codes}
 use Rattle.texts.specs.Listings.{eight_places}
 use Rattle.sheetlaws.specs.Refusing.{CodeLine, CodeFault, form, absent, broken, CodesFine, none, next}
-use Rattle.sheetlaws.proofs.ToldKeys.{key_takes, one_key, line_key, line_from, row_absent, row_broken, row_taken}
+use Rattle.texts.proofs.Skips.{skip_takes}
+use Rattle.sheetlaws.proofs.ToldKeys.{one_key, line_key, line_from, row_absent, row_broken, row_taken}
 use Rattle.sheetlaws.proofs.ToldCodes.{rows_after, code_idle, code_live}
 
 -- a text that begins with the key of one code has no other's
@@ -20,7 +21,7 @@ other_key c d text after there differ = by (skip (code_key c) text) refl
   where
     by : (o : Option (List ℕ)) → skip (code_key c) text ≡ o → o ≡ None
     by None e = refl
-    by (Some rest) e = absurd (differ (one_key c d rest after (sym (key_takes (code_key c) text rest e) ∙ key_takes (code_key d) text after there)).0)
+    by (Some rest) e = absurd (differ (one_key c d rest after (sym (skip_takes (code_key c) text rest e) ∙ skip_takes (code_key d) text after there)).0)
 
 module _ (orders : Orders) (a : ℕ) where
   -- what stops the line of a later code stops the reading
@@ -56,7 +57,7 @@ module _ (orders : Orders) (a : ℕ) where
       by None e others = code_idle orders a k c n text e ∙ ap (then_row None) others
       by (Some after) e others =
           code_live orders a k c n text after e
-          ∙ ap (λ r. r >>= λ row. then_row (Some row.0) (read_codes orders a k (suc c) (suc n) row.1)) (no_row c n text after (key_takes (code_key c) text after e) (λ es out rest. lacks c es out rest (omega arith) (omega arith)) (selections_at a after) refl)
+          ∙ ap (λ r. r >>= λ row. then_row (Some row.0) (read_codes orders a k (suc c) (suc n) row.1)) (no_row c n text after (skip_takes (code_key c) text after e) (λ es out rest. lacks c es out rest (omega arith) (omega arith)) (selections_at a after) refl)
 
   fault_refused : (k c n : ℕ) (text : List ℕ) (e : Refusal) → k + c ≡ 16 → CodeFault orders a c n text e → read_codes orders a k c n text ≡ Err e
   fault_refused k c n text e sixteen (form some lacks) = form_refused k c n text sixteen some lacks

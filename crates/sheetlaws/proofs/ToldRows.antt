@@ -11,7 +11,8 @@ use Rattle.reading.specs.Stages.{◌>>=◌, if_passed}
 use Rattle.reading.specs.Reader.{read_row, then_row, read_codes}
 use Rattle.sheetlaws.specs.Refusing.{Rows, end, idle, live}
 use Rattle.reading.proofs.Staged.{bind_ok, passed, ok_is}
-use Rattle.sheetlaws.proofs.ToldKeys.{key_takes, one_key, line_key, row_fine, row_taken}
+use Rattle.texts.proofs.Skips.{skip_takes}
+use Rattle.sheetlaws.proofs.ToldKeys.{one_key, line_key, row_fine, row_taken}
 use Rattle.sheetlaws.proofs.ToldCodes.{Rest, code_idle, code_live}
 
 then_ok : (r : Option RowData) (rs : Rest) (rows : List (Option RowData)) → then_row r rs ≡ Ok rows → (others : List (Option RowData)) × (rs ≡ Ok others) × (r ∷ others ≡ rows)
@@ -40,7 +41,7 @@ module _ (orders : Orders) (a : ℕ) where
       by (Some after) some others =
           let b = bind_ok (read_row orders a n after) (λ row. then_row (Some row.0) (read_codes orders a k (suc c) (suc n) row.1)) rows (sym (code_live orders a k c n text after some) ∙ h) in
           let s = then_ok (Some b.0.0) (read_codes orders a k (suc c) (suc n) b.0.1) rows b.2 in
-          subst (Rows orders a c text) s.2 (live c text b.0.1 b.0.0 s.0 (omega arith) (row_fine orders a c n text after b.0.0 b.0.1 (key_takes (code_key c) text after some) b.1) (subst (λ d. Rows orders a d b.0.1 s.0) code (others (suc n) b.0.1 s.0 s.1)))
+          subst (Rows orders a c text) s.2 (live c text b.0.1 b.0.0 s.0 (omega arith) (row_fine orders a c n text after b.0.0 b.0.1 (skip_takes (code_key c) text after some) b.1) (subst (λ d. Rows orders a d b.0.1 s.0) code (others (suc n) b.0.1 s.0 s.1)))
 
   -- no rows are left where a line of an earlier code stands
   no_rows : (c : ℕ) (after : List ℕ) (d : ℕ) (text : List ℕ) (rows : List (Option RowData)) → Rows orders a d text rows → text ≡ code_key c ++ after → c < d → ⊥
@@ -60,7 +61,7 @@ module _ (orders : Orders) (a : ℕ) where
     where
       by : (o : Option (List ℕ)) → skip (code_key c) text ≡ o → o ≡ None
       by None e = refl
-      by (Some after) e = absurd (no_rows c after (c + 1) text others more (key_takes (code_key c) text after e) (omega arith))
+      by (Some after) e = absurd (no_rows c after (c + 1) text others more (skip_takes (code_key c) text after e) (omega arith))
   rows_read c text rows (live c2 text2 rest r others h fine more) zero n sixteen = absurd (omega arith)
   rows_read c text rows (live c2 text2 rest r others h fine more) (suc k) n sixteen =
       let code : suc c ≡ c + 1 = omega arith in

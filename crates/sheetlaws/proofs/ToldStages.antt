@@ -15,8 +15,9 @@ use Rattle.sheetlaws.specs.Sheets.{port_lines}
 use Rattle.reading.specs.Stages.{◌>>=◌, if_passed}
 use Rattle.reading.specs.Reader.{read_number, read_ports, read_block, check_ports, read_sheet}
 use Rattle.sheetlaws.specs.Refusing.{Begun, PortsBegun, AllPorts, CodesFine, CodeFault, Rows, Refused, too_long, in_adders, in_width, in_port, in_code, unselected}
+use Rattle.reading.proofs.PortOrder.{ports_count}
 use Rattle.sheetlaws.proofs.ToldNumbers.{number_read, number_refused}
-use Rattle.sheetlaws.proofs.ToldOrder.{proper, find_port, ports_count}
+use Rattle.sheetlaws.proofs.ToldOrder.{proper, find_port}
 use Rattle.sheetlaws.proofs.ToldLines.{Fine, fine_from, overlay, kept_at, kept_there, ports_read, ports_refused}
 use Rattle.sheetlaws.proofs.ToldReached.{codes_refused}
 use Rattle.sheetlaws.proofs.ToldRows.{rows_read}

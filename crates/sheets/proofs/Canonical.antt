@@ -1,9 +1,8 @@
 -- The order in which a port's inputs are written.
-use Rattle.std.proofs.Common.{ℕ, zero, suc, ◌≤◌, List, [], ◌∷◌, get_or, refl}
+use Rattle.std.proofs.Common.{ℕ, ◌≤◌, List, [], ◌∷◌, refl}
 use Rattle.adders.specs.declared.wiring.Operand.{Operand}
 use Rattle.blocks.specs.declared.model.Block.{Block}
 use Rattle.ports.specs.declared.port.Port.{Port}
-use Rattle.ports.specs.declared.port.Port.TheVariants.{Output}
 use Rattle.ports.specs.Ports.{ports, nth_port}
 use Rattle.ports.specs.Inputs.{inputs, Ascends}
 use Rattle.ports.proofs.Ascending.{before_irrefl, inputs_law}
@@ -11,7 +10,7 @@ use Rattle.texts.specs.Laws.{SmallPort}
 use Rattle.reading.specs.Repeats.{Once}
 use Rattle.sheetlaws.specs.Sheets.{InputsInOrder, IsSheet}
 use Rattle.sheets.specs.Calls.{written_sheet}
-use Rattle.sheetlaws.proofs.PortsAgain.{SmallPorts, small_ports}
+use Rattle.sheetlaws.proofs.ToldOrder.{proper, small_at}
 
 ascending_once : (os : List Operand) → Ascends os → Once os
 ascending_once [] a = tt
@@ -23,10 +22,5 @@ canonical b p = let l = inputs_law.these b p in record { once = ascending_once (
 pub is_sheet : (b : Block) → IsSheet (written_sheet b) b
 is_sheet b = record { orders = inputs b; ordered = canonical b; text = refl }
 
-small_at : (ps : List Port) (k : ℕ) → SmallPorts ps → SmallPort (get_or ps k Output)
-small_at [] k h = tt
-small_at (p ∷ ps) zero h = h.0
-small_at (p ∷ ps) (suc k) h = small_at ps k h.1
-
 pub small_nth : (a k : ℕ) → a ≤ 8 → SmallPort (nth_port a k)
-small_nth a k h = small_at (ports a) k (small_ports a h)
+small_nth a k h = small_at (ports a) k (proper a h)
