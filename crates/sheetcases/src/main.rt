@@ -2,14 +2,14 @@
 #![tactic(auto)]
 
 mod damage;
+mod each_line;
 mod edits;
-mod forms;
 mod inputs;
 mod limits;
-mod lines;
 mod outcome;
-mod rowforms;
-mod rows;
+mod port_forms;
+mod row_forms;
+mod row_rules;
 mod selected;
 mod sizes;
 mod whole;
@@ -27,11 +27,11 @@ fn main(rt: HostRuntime) -> io::Result<()> {
         "the worked sheet",
         outcome::WORKED.as_bytes(),
     )?;
-    lines::print_all(&rt, heap, &before)?;
-    edits::print_all(&rt, heap, &before, &forms::FORMS)?;
-    edits::print_all(&rt, heap, &before, &rowforms::ROW_FORMS)?;
+    each_line::print_all(&rt, heap, &before)?;
+    edits::print_all(&rt, heap, &before, &port_forms::PORT_FORMS)?;
+    edits::print_all(&rt, heap, &before, &row_forms::ROW_FORMS)?;
     edits::print_all(&rt, heap, &before, &limits::LIMITS)?;
-    edits::print_all(&rt, heap, &before, &rows::ROWS)?;
+    edits::print_all(&rt, heap, &before, &row_rules::ROW_RULES)?;
     edits::print_all(&rt, heap, &before, &selected::SELECTED)?;
     whole::print_all(&rt, &before)?;
     inputs::print_all(&rt, heap, &before)?;

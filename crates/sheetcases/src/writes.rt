@@ -35,23 +35,34 @@ fn retired() -> Result<Block, Refusal> {
     Ok(block)
 }
 
-// Prints what is written for a block, and whether that reads again as the block.
-fn print_block(rt: &impl Print, label: &str, block: &Block) -> io::Result<()> {
-    let mut buffer = [0u8; MOST_BYTES];
-    let length = sheets::write(block, &mut buffer).unwrap_or(0);
-    let sheet = buffer.get(..length).unwrap_or(&[]);
-    let text = str::from_utf8(sheet).unwrap_or("?");
-    println!(rt; "{label}, written: {length} bytes, {text:?}")?;
-    let again = match block_of(text) {
-        Ok(read) if same(&read, block) => "the same block",
-        _ => "not the same block",
+// Prints whether a text reads as the block.
+fn print_again(rt: &impl Print, label: &str, block: &Block, text: &str) -> io::Result<()> {
+    let again = if block_of(text).is_ok_and(|read| same(&read, block)) {
+        "the same block"
+    } else {
+        "not the same block"
     };
     println!(rt; "{label}, read again: {again}")
 }
 
-fn print_written(rt: &impl Print, label: &str, block: Result<Block, Refusal>) -> io::Result<()> {
+// Prints what is written for a block, and whether that reads again as the block.
+fn print_block(rt: &impl Print, heap: Global, label: &str, block: &Block) -> io::Result<()> {
+    let mut buffer = vec![in heap; 0u8; MOST_BYTES]?;
+    let length = sheets::write(block, buffer.as_mut_slice()).unwrap_or(0);
+    buffer.truncate(length);
+    let text = str::from_utf8(buffer.as_slice()).unwrap_or("?");
+    println!(rt; "{label}, written: {length} bytes, {text:?}")?;
+    print_again(rt, label, block, text)
+}
+
+fn print_written(
+    rt: &impl Print,
+    heap: Global,
+    label: &str,
+    block: Result<Block, Refusal>,
+) -> io::Result<()> {
     match block {
-        Ok(block) => print_block(rt, label, &block),
+        Ok(block) => print_block(rt, heap, label, &block),
         Err(refusal) => println!(rt; "{label}: {}", refusal.number()),
     }
 }
@@ -85,15 +96,20 @@ fn print_kept(rt: &impl Print) -> io::Result<()> {
 }
 
 pub fn print_all(rt: &impl Print, heap: Global) -> io::Result<()> {
-    print_block(rt, "a new block", &Block::new())?;
-    print_block(rt, "the worked sheet", &worked_block())?;
+    print_block(rt, heap, "a new block", &Block::new())?;
+    print_block(rt, heap, "the worked sheet", &worked_block())?;
     let falling = sheet_of(heap, &FALLING, "")?;
-    print_written(rt, "sixteen inputs, falling", block_of(falling.as_str()))?;
-    print_written(rt, "a minus and an unused adder", block_of(MINUS))?;
-    print_written(rt, "eight adders", block_of(EIGHT_ADDERS))?;
-    print_written(rt, "a founded chain", founded())?;
-    print_written(rt, "its shifts moved", moved())?;
-    print_written(rt, "its code retired", retired())?;
+    print_written(
+        rt,
+        heap,
+        "sixteen inputs, falling",
+        block_of(falling.as_str()),
+    )?;
+    print_written(rt, heap, "a minus and an unused adder", block_of(MINUS))?;
+    print_written(rt, heap, "eight adders", block_of(EIGHT_ADDERS))?;
+    print_written(rt, heap, "a founded chain", founded())?;
+    print_written(rt, heap, "its shifts moved", moved())?;
+    print_written(rt, heap, "its code retired", retired())?;
     print_buffer(rt, heap, "90 bytes", 90)?;
     print_buffer(rt, heap, "100 bytes", 100)?;
     print_buffer(rt, heap, "89 bytes", 89)?;

@@ -1,7 +1,7 @@
 // Rows that name an absent input or break a rule.
 use crate::edits::Edit;
 
-pub const ROWS: [Edit; 28] = [
+pub const ROW_RULES: [Edit; 28] = [
     Edit("a left number past the last", "s01=0+1", "s01=1+1"),
     Edit("a right number past the last", "s01=0+1", "s01=0+2"),
     Edit(

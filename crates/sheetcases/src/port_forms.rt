@@ -1,7 +1,7 @@
 // Lines of the adders, the width and the ports that break their form.
 use crate::edits::Edit;
 
-pub const FORMS: [Edit; 33] = [
+pub const PORT_FORMS: [Edit; 33] = [
     Edit("a zero before the adder count", "adders=2", "adders=02"),
     Edit("a zero before the width", "width=16", "width=016"),
     Edit("a zero before a source", "1L=0.0", "1L=00.0"),
