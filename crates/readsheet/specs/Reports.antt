@@ -5,8 +5,8 @@ use Rattle.adders.specs.declared.refusals.Refusal.TheVariants as R
 use Rattle.adders.specs.declared.refusals.RowFault.{RowFault}
 use Rattle.adders.specs.Refusals.{refusal_entry, fault_entry}
 use Rattle.blocks.specs.declared.model.Block.{Block}
-use Rattle.sheets.specs.Sheets.{IsSheet}
-use Rattle.sheets.specs.Refusing.{Refused}
+use Rattle.sheetlaws.specs.Sheets.{IsSheet}
+use Rattle.sheetlaws.specs.Refusing.{Refused}
 use Rattle.readsheet.specs.Blocks.{block_text}
 
 -- the block that the bytes are a sheet of, or the first cause why they are none
