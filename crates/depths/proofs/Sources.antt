@@ -1,6 +1,5 @@
 -- Sources are lower than what reads them, since every row keeps that.
 use Rattle.std.proofs.Common.{◌≡◌, ℕ, zero, suc, ◌-◌, ◌<◌, ◌≤◌, List, [], ◌∷◌, length, get_or, Some, None, Option, refl, sym, subst, inl, inr, arith}
-use Rattle.adders.specs.declared.wiring.Adder.{Adder}
 use Rattle.adders.specs.declared.wiring.Operand.{Operand}
 use Rattle.adders.specs.Values.{spare_operand}
 use Rattle.adders.proofs.Broken.{some_none}
@@ -11,8 +10,9 @@ use Rattle.blocks.specs.declared.model.Block.{Block}
 use Rattle.blocks.specs.Blocks.{row_of}
 use Rattle.ports.specs.declared.port.Port.{Port}
 use Rattle.ports.specs.declared.port.Port.TheVariants.{Left, Right, Output}
-use Rattle.ports.specs.Ports.{left_of, right_of, put_at}
+use Rattle.ports.specs.Ports.{put_at}
 use Rattle.ports.specs.Inputs.{inputs, Among}
+use Rattle.ports.proofs.Sides.{left_is, right_is}
 use Rattle.ports.proofs.Ascending.{inputs_law}
 
 -- what a port's sources stay below
@@ -30,14 +30,6 @@ Possible Output = Unit {0}
 pub record Low (p : Port) (o : Operand) : Type 0 where
   pub lower : o.source < rank p
   pub possible : Possible p
-
-left_is : (a : Option Adder) (o : Operand) → left_of a ≡ Some o → (x : Adder) × (a ≡ Some x) × (x.left ≡ o)
-left_is None o e = absurd (some_none (sym e))
-left_is (Some x) o e = (x, refl, cc)
-
-right_is : (a : Option Adder) (o : Operand) → right_of a ≡ Some o → (x : Adder) × (a ≡ Some x) × (x.right ≡ o)
-right_is None o e = absurd (some_none (sym e))
-right_is (Some x) o e = (x, refl, cc)
 
 put_low : (r : Option Row) (p : Port) (o : Operand) → put_at r p ≡ Some o → Low p o
 put_low None p o e = absurd (some_none (sym e))

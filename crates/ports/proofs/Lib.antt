@@ -1,3 +1,4 @@
 pub mod Ascending
 mod Inserting
 pub mod Places
+pub mod Sides

@@ -4,17 +4,19 @@ use Rattle.std.proofs.lemmas.Bool.{cases_lt, cases_eq, false≢true}
 use Rattle.adders.specs.declared.wiring.Adder.{Adder}
 use Rattle.adders.specs.declared.wiring.Operand.{Operand}
 use Rattle.adders.proofs.Broken.{some_none}
+use Rattle.adders.specs.Rules.{SoundOperand}
 use Rattle.rows.specs.declared.model.Row.{Row}
 use Rattle.rows.specs.Reading.{Reads, directly}
 use Rattle.rows.specs.Rows.{adder_at}
-use Rattle.rows.proofs.Answering.{there, row_keeps}
+use Rattle.rows.proofs.Answering.{There, there, row_keeps}
 use Rattle.blocks.specs.declared.model.Block.{Block}
 use Rattle.blocks.specs.Uses.{row_uses}
 use Rattle.blocks.specs.Blocks.{row_of}
 use Rattle.ports.specs.declared.port.Port.{Port}
 use Rattle.ports.specs.declared.port.Port.TheVariants.{Left, Right, Output}
-use Rattle.ports.specs.Ports.{left_of, right_of, ports_from, nth_port, put_at}
+use Rattle.ports.specs.Ports.{ports_from, nth_port, put_at}
 use Rattle.ports.specs.Inputs.{Selected}
+use Rattle.ports.proofs.Sides.{left_is, right_is}
 use Rattle.texts.proofs.Takes.{some_is}
 use Rattle.reading.specs.Reader.{bound}
 use Rattle.sheetlaws.proofs.RowsRead.{slot_is}
@@ -39,14 +41,6 @@ pub record PutThere (b : Block) (p : Port) (o : Operand) : Type 0 where
   pub low : o.source ≤ 8
   pub shift : o.shift ≤ 30
 
-left_is : (a : Option Adder) (o : Operand) → left_of a ≡ Some o → (x : Adder) × (a ≡ Some x) × (x.left ≡ o)
-left_is None o e = absurd (some_none (sym e))
-left_is (Some x) o e = (x, refl, some_is x.left o e)
-
-right_is : (a : Option Adder) (o : Operand) → right_of a ≡ Some o → (x : Adder) × (a ≡ Some x) × (x.right ≡ o)
-right_is None o e = absurd (some_none (sym e))
-right_is (Some x) o e = (x, refl, some_is x.right o e)
-
 module _ (b : Block) (code : ℕ) (r : Row) (here : row_of b code ≡ Some r) where
   -- no adder past the block's is used
   within : (j : ℕ) → is_some (adder_at r j) ≡ true → j ≤ b.adders
@@ -63,19 +57,21 @@ module _ (b : Block) (code : ℕ) (r : Row) (here : row_of b code ≡ Some r) wh
           let used = (row_keeps r).filled k few read in
           omega (arith, within (suc k) (ap is_some (slot_is r.slots k) ∙ used))
 
+  -- at one side of an adder
+  side : (j : ℕ) (p : Port) → bound b.adders p ≡ j → ((k : ℕ) × (k < 2 * b.adders + 1) × (nth_port b.adders k ≡ p)) → (x : Adder) → There r j x → (o : Operand) → SoundOperand r.slots (suc (j - 1)) o → PutThere b p o
+  side j p same listed x t o s = record { listed = listed; lower = omega (arith, s.lower, t.low, same); low = omega (arith, s.lower, t.low, t.high); shift = s.shift }
+
   put : (p : Port) (o : Operand) → put_at (Some r) p ≡ Some o → PutThere b p o
   put (Left j) o e =
       let x = left_is (adder_at r j) o e in
       let t = there r j x.0 x.1 in
-      let s = ((row_keeps r).adders (j - 1) x.0 t.slot).left in
       let few = within j (ap is_some x.1) in
-      subst (PutThere b (Left j)) x.2 (record { listed = (sides_there b.adders 1 j t.low (omega arith)).0; lower = omega (arith, s.lower, t.low); low = omega (arith, s.lower, t.low, t.high); shift = s.shift })
+      subst (PutThere b (Left j)) x.2 (side j (Left j) refl (sides_there b.adders 1 j t.low (omega arith)).0 x.0 t x.0.left ((row_keeps r).adders (j - 1) x.0 t.slot).left)
   put (Right j) o e =
       let x = right_is (adder_at r j) o e in
       let t = there r j x.0 x.1 in
-      let s = ((row_keeps r).adders (j - 1) x.0 t.slot).right in
       let few = within j (ap is_some x.1) in
-      subst (PutThere b (Right j)) x.2 (record { listed = (sides_there b.adders 1 j t.low (omega arith)).1; lower = omega (arith, s.lower, t.low); low = omega (arith, s.lower, t.low, t.high); shift = s.shift })
+      subst (PutThere b (Right j)) x.2 (side j (Right j) refl (sides_there b.adders 1 j t.low (omega arith)).1 x.0 t x.0.right ((row_keeps r).adders (j - 1) x.0 t.slot).right)
   put Output o e =
       subst (PutThere b Output) (some_is r.output o e)
       (record { listed = (2 * b.adders, omega arith, output_there b.adders 1); lower = omega (arith, output_within); low = omega (arith, (row_keeps r).source, r.room); shift = (row_keeps r).shift })

@@ -106,28 +106,25 @@ slot_is xs k =
     let n : suc k - 1 ≡ k = omega arith in
     cond-true (leb 1 (suc k)) (get_or xs (suc k - 1) None) None (le-leb 1 (suc k) (omega arith)) ∙ ap (λ m. get_or xs m None) n
 
+-- at one side of an adder: g is the operand there, f that of an adder, and n the number of its input
+side_input : (orders : Orders) (r : RowData) (h : RowFrom orders r) (k : ℕ) (p : Port) (g : Option Adder → Option Operand) (f : Adder → Operand) (n : Selection → ℕ) → g None ≡ None → ((x : Adder) → g (Some x) ≡ Some (f x))
+    → ((s : Selection) (x : Adder) → wired orders (suc k) s ≡ Some x → slice_get (orders p) (n s) ≡ Some (f x)) → (o : Operand) → g (slot_at r.slots (suc k)) ≡ Some o → Among o (orders p)
+side_input orders r h k p g f n none some read o e = by (get_or r.slots k None) refl (ap g (sym (slot_is r.slots k)) ∙ e)
+  where
+    by : (x : Option Adder) → get_or r.slots k None ≡ x → g x ≡ Some o → Among o (orders p)
+    by None here q = absurd (some_none (sym q ∙ none))
+    by (Some x) here q =
+        let parts = row_parts orders h.entries h.output r h.selects in
+        let s = slots_wired orders 1 k h.entries r.slots x parts.0 here in
+        let m : 1 + k ≡ suc k = omega arith in
+        among_get (orders p) (n s.0) o (read s.0 x (subst (λ i. wired orders i s.0 ≡ Some x) m s.1) ∙ sym (some x) ∙ q)
+
 pub has_input : (orders : Orders) (r : RowData) → RowFrom orders r → (p : Port) (o : Operand) → data_at r p ≡ Some o → Among o (orders p)
 has_input orders r h Output o e = let p = row_parts orders h.entries h.output r h.selects in among_get (orders Output) h.output o (p.1 ∙ e)
 has_input orders r h (Left zero) o e = absurd (some_none (sym e))
-has_input orders r h (Left (suc k)) o e = by (get_or r.slots k None) refl (ap left_of (sym (slot_is r.slots k)) ∙ e)
-  where
-    by : (x : Option Adder) → get_or r.slots k None ≡ x → left_of x ≡ Some o → Among o (orders (Left (suc k)))
-    by None g q = absurd (some_none (sym q))
-    by (Some x) g q =
-        let p = row_parts orders h.entries h.output r h.selects in
-        let s = slots_wired orders 1 k h.entries r.slots x p.0 g in
-        let n : 1 + k ≡ suc k = omega arith in
-        among_get (orders (Left (suc k))) s.0.left o ((wired_by orders (suc k) s.0 x (subst (λ m. wired orders m s.0 ≡ Some x) n s.1)).0 ∙ q)
+has_input orders r h (Left (suc k)) o e = side_input orders r h k (Left (suc k)) left_of (λ x. x.left) (λ s. s.left) refl (λ x. refl) (λ s x w. (wired_by orders (suc k) s x w).0) o e
 has_input orders r h (Right zero) o e = absurd (some_none (sym e))
-has_input orders r h (Right (suc k)) o e = by (get_or r.slots k None) refl (ap right_of (sym (slot_is r.slots k)) ∙ e)
-  where
-    by : (x : Option Adder) → get_or r.slots k None ≡ x → right_of x ≡ Some o → Among o (orders (Right (suc k)))
-    by None g q = absurd (some_none (sym q))
-    by (Some x) g q =
-        let p = row_parts orders h.entries h.output r h.selects in
-        let s = slots_wired orders 1 k h.entries r.slots x p.0 g in
-        let n : 1 + k ≡ suc k = omega arith in
-        among_get (orders (Right (suc k))) s.0.right o ((wired_by orders (suc k) s.0 x (subst (λ m. wired orders m s.0 ≡ Some x) n s.1)).2 ∙ q)
+has_input orders r h (Right (suc k)) o e = side_input orders r h k (Right (suc k)) right_of (λ x. x.right) (λ s. s.right) refl (λ x. refl) (λ s x w. (wired_by orders (suc k) s x w).2) o e
 
 -- one line
 line_read : (orders : Orders) (a : ℕ) (text : List ℕ) (r : RowData) (rest : List ℕ) → AllOnce orders → RowRead orders a text r rest → text ≡ selections (selections_of orders 1 (take a r.slots)) (place r.output (orders Output)) ++ rest
