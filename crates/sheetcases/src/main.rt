@@ -28,11 +28,11 @@ fn main(rt: HostRuntime) -> io::Result<()> {
         outcome::WORKED.as_bytes(),
     )?;
     each_line::print_all(&rt, heap, &before)?;
-    edits::print_all(&rt, heap, &before, &port_forms::PORT_FORMS)?;
-    edits::print_all(&rt, heap, &before, &row_forms::ROW_FORMS)?;
-    edits::print_all(&rt, heap, &before, &limits::LIMITS)?;
-    edits::print_all(&rt, heap, &before, &row_rules::ROW_RULES)?;
-    edits::print_all(&rt, heap, &before, &selected::SELECTED)?;
+    port_forms::print_all(&rt, heap, &before)?;
+    row_forms::print_all(&rt, heap, &before)?;
+    limits::print_all(&rt, heap, &before)?;
+    row_rules::print_all(&rt, heap, &before)?;
+    selected::print_all(&rt, heap, &before)?;
     whole::print_all(&rt, &before)?;
     inputs::print_all(&rt, heap, &before)?;
     sizes::print_all(&rt, heap, &before)?;
