@@ -20,3 +20,5 @@ pub mod Sound
 pub mod Complete
 pub mod Accepting
 pub mod SameSaid
+pub mod RowFaults
+pub mod Carried

@@ -1,3 +1,4 @@
 pub mod Sheets
 pub mod Refusing
 pub mod SheetLaws
+pub mod FaultLaw

@@ -3,4 +3,4 @@
 
 mod laws;
 
-pub use laws::{refusals_are_told, sheets_are_read};
+pub use laws::{faults_are_carried, refusals_are_told, sheets_are_read};
