@@ -36,35 +36,29 @@ fn marked(heap: Global, place: usize) -> Result<Vec<u8>, AllocError> {
     Ok(sheet)
 }
 
-// For how many places the sheet with a # there is told at the line of the place.
+// Whether a sheet that is damaged at a place is told at the line of the place.
+fn is_told(before: &Block, sheet: &[u8], place: usize) -> bool {
+    let feeds = WORKED.bytes().take(place).filter(|byte| *byte == b'\n');
+    Outcome::of(before, sheet).breaks_form_at(feeds.count().saturating_add(1))
+}
+
+// For how many places the sheet with a # there is told at its line.
 fn marks_told(heap: Global, before: &Block) -> Result<usize, AllocError> {
     let mut told = 0usize;
-    let mut line = 1usize;
-    for (place, byte) in WORKED.bytes().enumerate() {
-        if Outcome::of(before, marked(heap, place)?.as_slice()).breaks_form_at(line) {
+    for place in 0..WORKED.len() {
+        if is_told(before, marked(heap, place)?.as_slice(), place) {
             told = told.saturating_add(1);
-        }
-        if byte == b'\n' {
-            line = line.saturating_add(1);
         }
     }
     Ok(told)
 }
 
-// For how many places the sheet that ends there is told at the line of the place.
+// For how many places the sheet that ends before it is told at its line.
 fn cuts_told(before: &Block) -> usize {
-    let mut told = 0usize;
-    let mut line = 1usize;
-    for (place, byte) in WORKED.bytes().enumerate() {
-        let cut = WORKED.as_bytes().get(..place).unwrap_or(&[]);
-        if Outcome::of(before, cut).breaks_form_at(line) {
-            told = told.saturating_add(1);
-        }
-        if byte == b'\n' {
-            line = line.saturating_add(1);
-        }
-    }
-    told
+    let sheet = WORKED.as_bytes();
+    (0..sheet.len())
+        .filter(|place| is_told(before, sheet.get(..*place).unwrap_or(&[]), *place))
+        .count()
 }
 
 pub fn print_all(rt: &impl Print, heap: Global, before: &Block) -> io::Result<()> {
