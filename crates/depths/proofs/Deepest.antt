@@ -3,8 +3,9 @@ use Rattle.std.proofs.Common.{◌≡◌, ◌≢◌, ℕ, ◌+◌, ◌≤◌, Lis
 use Rattle.std.proofs.lemmas.Bool.{cases_lt}
 use Rattle.adders.specs.declared.wiring.Operand.{Operand}
 use Rattle.ports.specs.Inputs.{Among}
-use Rattle.depths.specs.Depths.{levels, deepest, inputs_depth, if_any}
-use Rattle.depths.proofs.Levels.{levels_few, levels_none}
+use Rattle.bits.specs.Bits.{bits}
+use Rattle.depths.specs.Depths.{deepest, inputs_depth, if_any}
+use Rattle.bits.proofs.Least.{least}
 
 pub deepest_same : (d f : ℕ → ℕ) (os : List Operand) → ((o : Operand) → Among o os → d o.source ≡ f o.source) → deepest d os ≡ deepest f os
 deepest_same d f [] h = refl
@@ -12,7 +13,7 @@ deepest_same d f (o ∷ os) h = let e = h o (inl refl) in let r = deepest_same d
 
 pub depth_same : (d f : ℕ → ℕ) (os : List Operand) → ((o : Operand) → Among o os → d o.source ≡ f o.source) → inputs_depth d os ≡ inputs_depth f os
 depth_same d f [] h = refl
-depth_same d f (o ∷ os) h = ap (λ n. levels (length (o ∷ os)) + n) (deepest_same d f (o ∷ os) h)
+depth_same d f (o ∷ os) h = ap (λ n. bits (length (o ∷ os)) + n) (deepest_same d f (o ∷ os) h)
 
 pub deepest_most : (d : ℕ → ℕ) (k : ℕ) (os : List Operand) → ((o : Operand) → Among o os → d o.source ≤ k) → deepest d os ≤ k
 deepest_most d k [] h = omega arith
@@ -34,11 +35,11 @@ deepest_reached d o (y ∷ ys) =
 
 pub depth_few : (d : ℕ → ℕ) (k : ℕ) (os : List Operand) → length os ≤ 16 → ((s : ℕ) → d s ≤ k) → inputs_depth d os ≤ 4 + k
 depth_few d k [] few h = omega arith
-depth_few d k (o ∷ os) few h = omega (arith, levels_few (length (o ∷ os)) few, deepest_most d k (o ∷ os) (λ x _. h x.source))
+depth_few d k (o ∷ os) few h = omega (arith, least (length (o ∷ os)) 4 few, deepest_most d k (o ∷ os) (λ x _. h x.source))
 
 -- without a look at whether there are inputs
-pub depth_is : (d : ℕ → ℕ) (os : List Operand) → levels (length os) + deepest d os ≡ inputs_depth d os
-depth_is d [] = omega (arith, levels_none 0 (omega arith))
+pub depth_is : (d : ℕ → ℕ) (os : List Operand) → bits (length os) + deepest d os ≡ inputs_depth d os
+depth_is d [] = omega (arith, least 0 0 (omega arith))
 depth_is d (o ∷ os) = refl
 
 pub any_at_most : (os : List Operand) (n k : ℕ) → n ≤ k → if_any os n ≤ k

@@ -1,4 +1,3 @@
-pub mod Levels
 pub mod Sources
 pub mod Deepest
 pub mod Rounds

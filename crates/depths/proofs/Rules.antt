@@ -14,7 +14,8 @@ use Rattle.ports.specs.declared.port.Port.TheVariants.{Left, Right}
 use Rattle.ports.specs.Ports.{left_of, put_at}
 use Rattle.ports.specs.Inputs.{inputs, Among}
 use Rattle.ports.proofs.Ascending.{inputs_law}
-use Rattle.depths.specs.Depths.{levels, deepest, inputs_depth, if_any, adder_depth, port_depth}
+use Rattle.bits.specs.Bits.{bits}
+use Rattle.depths.specs.Depths.{deepest, inputs_depth, if_any, adder_depth, port_depth}
 use Rattle.depths.specs.DepthLaws.{IsUsed, IsDeepest, FollowsRules, DepthsFollow}
 use Rattle.depths.proofs.Sources.{input_low}
 use Rattle.depths.proofs.Deepest.{depth_same, deepest_most, deepest_over, deepest_reached, depth_is, any_there, any_never}
@@ -58,7 +59,7 @@ these b = record {
   unused = λ j h. adder_is b j ∙ any_never (inputs b (Left j)) _ (λ o k. h (input_used b j o k));
   used = λ j u. let i = used_input b j u in adder_is b j ∙ any_there i.0 (inputs b (Left j)) _ i.1;
   no_inputs = λ p e. ap (inputs_depth (adder_depth b)) e;
-  some_inputs = λ p m h. sym (depth_is (adder_depth b) (inputs b p)) ∙ ap (λ n. levels (length (inputs b p)) + n) (deepest_one b (adder_depth b) p m h);
+  some_inputs = λ p m h. sym (depth_is (adder_depth b) (inputs b p)) ∙ ap (λ n. bits (length (inputs b p)) + n) (deepest_one b (adder_depth b) p m h);
 }
 
 module _ (b : Block) (d : ℕ → ℕ) (e : Port → ℕ) (follows : FollowsRules b d e) where
@@ -73,7 +74,7 @@ module _ (b : Block) (d : ℕ → ℕ) (e : Port → ℕ) (follows : FollowsRule
         reached = r.2;
         most = λ x h. deepest_over d (o ∷ os) x (subst (Among x) is h);
       })
-      ∙ ap (λ xs. levels (length xs) + deepest d (o ∷ os)) is
+      ∙ ap (λ xs. bits (length xs) + deepest d (o ∷ os)) is
 
   adder_from : (j : ℕ) (os : List Operand) → inputs b (Left j) ≡ os → d j ≡ from_sources b d j
   adder_from j [] is =

@@ -8,12 +8,8 @@ use Rattle.blocks.specs.Uses.{uses}
 use Rattle.ports.specs.declared.port.Port.{Port}
 use Rattle.ports.specs.declared.port.Port.TheVariants.{Left, Right, Output}
 use Rattle.ports.specs.Inputs.{inputs, Among}
-use Rattle.depths.specs.Depths.{levels, adder_depth, port_depth, block_depth}
-
--- levels n is the least t with 2 ^ t at least n
-pub record LevelsAreLeast : Type 0 where
-  pub enough : (n : ℕ) → n ≤ 2 ^ levels n
-  pub least : (n t : ℕ) → n ≤ 2 ^ t → levels n ≤ t
+use Rattle.bits.specs.Bits.{bits}
+use Rattle.depths.specs.Depths.{adder_depth, port_depth, block_depth}
 
 -- some live row uses the adder
 abbrev pub IsUsed : Block → ℕ → Type 0
@@ -32,7 +28,7 @@ pub record FollowsRules (b : Block) (d : ℕ → ℕ) (e : Port → ℕ) : Type 
   pub unused : (j : ℕ) → (IsUsed b j → ⊥) → d j ≡ 0
   pub used : (j : ℕ) → IsUsed b j → d j ≡ 1 + max (e (Left j)) (e (Right j))
   pub no_inputs : (p : Port) → inputs b p ≡ [] → e p ≡ 0
-  pub some_inputs : (p : Port) (m : ℕ) → IsDeepest b d p m → e p ≡ levels (length (inputs b p)) + m
+  pub some_inputs : (p : Port) (m : ℕ) → IsDeepest b d p m → e p ≡ bits (length (inputs b p)) + m
 
 -- the depths follow their rules, and no others do
 pub record DepthsFollow : Type 0 where

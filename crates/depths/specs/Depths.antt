@@ -1,31 +1,23 @@
 -- Depths: how many adders and two-way multiplexers stand one behind the other.
 --   d     the depth of each source
 --   b j   a block and an adder's number, or 0 for the sample
-use Rattle.std.specs.Prelude.{ℕ, zero, suc, ◌+◌, ◌^◌, cond, List, [], ◌∷◌, length, nat_le, max}
+use Rattle.std.specs.Prelude.{ℕ, zero, suc, ◌+◌, List, [], ◌∷◌, length, max}
 use Rattle.adders.specs.declared.wiring.Operand.{Operand}
 use Rattle.blocks.specs.declared.model.Block.{Block}
 use Rattle.ports.specs.declared.port.Port.{Port}
 use Rattle.ports.specs.declared.port.Port.TheVariants.{Left, Right, Output}
 use Rattle.ports.specs.Inputs.{inputs}
-
--- the first of t, t + 1 and so on whose power of two is at least n, where it comes within so many steps
-abbrev pub first_level : ℕ → ℕ → ℕ → ℕ
-first_level t n zero = t
-first_level t n (suc steps) = cond (nat_le n (2 ^ t)) t (first_level (t + 1) n steps)
-
--- the least t with 2 ^ t at least n, which is at most n
-unfoldable pub levels : ℕ → ℕ
-levels n = first_level 0 n n
+use Rattle.bits.specs.Bits.{bits}
 
 -- the depth of the deepest source
 abbrev pub deepest : (ℕ → ℕ) → List Operand → ℕ
 deepest d [] = 0
 deepest d (o ∷ os) = max (d o.source) (deepest d os)
 
--- of a port with these inputs: the levels of its multiplexer behind the deepest source
+-- of a port with these inputs: the levels of its multiplexer, which halves them at each, behind the deepest source
 abbrev pub inputs_depth : (ℕ → ℕ) → List Operand → ℕ
 inputs_depth d [] = 0
-inputs_depth d (o ∷ os) = levels (length (o ∷ os)) + deepest d (o ∷ os)
+inputs_depth d (o ∷ os) = bits (length (o ∷ os)) + deepest d (o ∷ os)
 
 -- n, or 0 where there are no inputs
 abbrev pub if_any : List Operand → ℕ → ℕ

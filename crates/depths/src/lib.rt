@@ -4,5 +4,5 @@
 mod laws;
 mod recursion;
 
-pub use laws::{depths_follow_their_rules, levels_are_least};
+pub use laws::depths_follow_their_rules;
 pub use recursion::{adder_depth, depth, port_depth};

@@ -1,7 +1,8 @@
 // The depths of adders and ports, each by the other.
 ghost use Rattle.std.specs.Prelude.{◌≡◌, ◌≤◌};
-ghost use Rattle.depths.specs.Depths.{levels, adder_depth, port_depth, block_depth};
+ghost use Rattle.depths.specs.Depths.{adder_depth, port_depth, block_depth};
 
+use bits::bits;
 use blocks::Block;
 use ports::Port;
 
@@ -28,7 +29,7 @@ pub fn adder_depth(block: &Block, adder: usize) -> usize
 
 // The depth of a port: its multiplexer's levels behind its deepest source.
 #[cycle(depths)]
-#[tactic(auto, using(crate::proofs::Rounds::deepest_few, crate::proofs::Levels::levels_few, crate::proofs::Deepest::depth_is, crate::proofs::Sources::source_low))]
+#[tactic(auto, using(crate::proofs::Rounds::deepest_few, crate::proofs::Deepest::depth_is, crate::proofs::Sources::source_low))]
 pub fn port_depth(block: &Block, port: Port) -> usize
     ensures { result ≡ port_depth block.now port }
 {
@@ -42,19 +43,5 @@ pub fn port_depth(block: &Block, port: Port) -> usize
             deepest = adder_depth(block, input.source as usize).max(deepest);
         }
     }
-    levels(inputs.len()) + deepest
-}
-
-// The least t with 2 ^ t at least the count, for as many inputs as a port can have.
-fn levels(count: usize) -> usize
-    requires { count ≤ 16 }
-    ensures { result ≡ levels count }
-{
-    match count {
-        0..=1 => 0,
-        2 => 1,
-        3..=4 => 2,
-        5..=8 => 3,
-        _ => 4,
-    }
+    bits(inputs.len() as u32) as usize + deepest
 }

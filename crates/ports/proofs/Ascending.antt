@@ -12,6 +12,7 @@ use Rattle.ports.specs.declared.port.Port.{Port}
 use Rattle.ports.specs.Ports.{put_at}
 use Rattle.ports.specs.Inputs.{precedes, insert, different, inputs, same, Among, Ascends}
 use Rattle.ports.specs.InputLaws.{InputsOf, InputsLaw}
+use Rattle.ports.proofs.Columns.{column_at, column_length, column_end, column_turn}
 
 -- one of two operands precedes the other unless they are one
 pub data Order (a b : Operand) : Type 0 where
@@ -126,6 +127,20 @@ ascending_same (x ∷ xs) (y ∷ ys) a b f g =
     let t : xs ≡ ys = ascending_same xs ys a.1 b.1 (tail_in x y xs ys a b f g) (tail_in y x ys xs b a g f) in
     ap (λ (z : Operand). z ∷ xs) e ∙ ap (λ (zs : List Operand). y ∷ zs) t
 
+-- an ascending list whose operands are all in another is no longer
+pub ascending_fewer : (xs ys : List Operand) → Ascends xs → Ascends ys → ((o : Operand) → Among o xs → Among o ys) → length xs ≤ length ys
+ascending_fewer [] ys a b f = omega arith
+ascending_fewer (x ∷ xs) [] a b f = absurd (f x (inl refl))
+ascending_fewer (x ∷ xs) (y ∷ ys) a b f =
+    ⊎_elim {C = length (x ∷ xs) ≤ length (y ∷ ys)}
+    (λ (e : x ≡ y). let t = ascending_fewer xs ys a.1 b.1 (λ o h. ⊎_elim {C = Among o ys} (λ (d : o ≡ y). absurd (before_irrefl x (subst (λ (z : Operand). precedes x z ≡ true) (d ∙ sym e) (a.0 o h)))) (λ (k : Among o ys). k) (f o (inr h))) in omega arith)
+    (λ (m : Among x ys). let t = ascending_fewer (x ∷ xs) ys a b.1 (λ o h. ⊎_elim {C = Among o ys} (λ (d : o ≡ y). absurd (late m (subst (λ (z : Operand). Among z (x ∷ xs)) d h))) (λ (k : Among o ys). k) (f o h)) in omega arith)
+    (f x (inl refl))
+  where
+    -- y is before x, so that it is not in the list from x on
+    late : Among x ys → Among y (x ∷ xs) → ⊥
+    late m h = ⊎_elim {C = ⊥} (λ (e : y ≡ x). before_irrefl y (subst (λ (z : Operand). precedes y z ≡ true) (sym e) (b.0 x m))) (λ (k : Among y xs). before_asym x y (a.0 y k) (b.0 x m)) h
+
 pub different_ascend : (es : List (Option Operand)) → Ascends (different es)
 different_ascend [] = tt
 different_ascend (None ∷ es) = different_ascend es
@@ -153,23 +168,10 @@ different_few [] = omega arith
 different_few (None ∷ es) = omega (arith, different_few es)
 different_few (Some e ∷ es) = omega (arith, different_few es, insert_one e (different es))
 
--- The column of a port.
-
-pub column_at : (rows : List (Option Row)) (p : Port) (k : ℕ) → get_or (map (λ r. put_at r p) rows) k None ≡ put_at (get_or rows k None) p
-column_at [] p k = refl
-column_at (r ∷ rows) p zero = refl
-column_at (r ∷ rows) p (suc k) = column_at rows p k
-
--- no row stands past the sixteenth place
-pub row_is : (b : Block) (k : ℕ) → row_of b k ≡ get_or b.table.rows k None
-row_is b k =
-    ⊎_elim (λ h. cond-true (leb k 15) (get_or b.table.rows k None) None (le-leb k 15 (omega arith))) (λ h. cond-false (leb k 15) (get_or b.table.rows k None) None (lt-leb k 15 (omega arith)) ∙ sym (get_or_past b.table.rows k None (omega (arith, b.room))))
-    (cases_lt k 16)
-
 module _ (b : Block) (p : Port) where
   selected_at : (o : Operand) (k : ℕ) → (put_at (row_of b k) p ≡ Some o → get_or (map (λ r. put_at r p) b.table.rows) k None ≡ Some o) × (get_or (map (λ r. put_at r p) b.table.rows) k None ≡ Some o → put_at (row_of b k) p ≡ Some o)
   selected_at o k =
-      let e = column_at b.table.rows p k ∙ ap (λ r. put_at r p) (sym (row_is b k)) in
+      let e = column_at (λ r. put_at r p) b k in
       (λ h. e ∙ h, λ h. sym e ∙ h)
 
   these : InputsOf b p (inputs b p)
@@ -183,31 +185,23 @@ module _ (b : Block) (p : Port) where
   alone os h = ascending_same os (inputs b p) h.ascending these.ascending (λ o k. these.all o (h.only o k)) (λ o k. h.all o (these.only o k))
 
   few : length (inputs b p) ≤ 16
-  few =
-      let same_length = length-map b.table.rows (λ r. put_at r p) in
-      omega (arith, different_few (map (λ r. put_at r p) b.table.rows), same_length, b.room)
+  few = omega (arith, different_few (map (λ r. put_at r p) b.table.rows), column_length (λ r. put_at r p) b)
 
--- a column from a code on, when the code before is added
+-- A column from a code on, when the code before is added.
 
 module _ (b : Block) (p : Port) where
   abbrev pub column : List (Option Operand)
   column = map (λ r. put_at r p) b.table.rows
 
-  column_length : length column ≡ 16
-  column_length = length-map b.table.rows (λ r. put_at r p) ∙ b.room
-
   pub none_yet : different (drop 16 column) ≡ []
-  none_yet = ap different (drop_all 16 column (omega (arith, column_length)))
+  none_yet = ap different (column_end (λ r. put_at r p) b)
 
   module _ (c : ℕ) (some : 0 < c) (most : c ≤ 16) where
     pub room_left : length (different (drop c column)) < 16
-    room_left = omega (arith, different_few (drop c column), length-drop c column, column_length)
+    room_left = omega (arith, different_few (drop c column), length-drop c column, column_length (λ r. put_at r p) b)
 
     turned : (o : Option Operand) → put_at (row_of b (c - 1)) p ≡ o → drop (c - 1) column ≡ o ∷ drop c column
-    turned o e =
-        let next : c - 1 + 1 ≡ c = omega arith in
-        drop_more column (c - 1) None (omega (arith, column_length)) ∙ ap (λ n. get_or column (c - 1) None ∷ drop n column) next
-        ∙ ap (λ x. x ∷ drop c column) (column_at b.table.rows p (c - 1) ∙ ap (λ r. put_at r p) (sym (row_is b (c - 1))) ∙ e)
+    turned o e = column_turn (λ r. put_at r p) b c some most ∙ ap (λ x. x ∷ drop c column) e
 
     pub one_put : (o : Operand) (list : List Operand) → put_at (row_of b (c - 1)) p ≡ Some o → list ≡ different (drop c column) → insert o list ≡ different (drop (c - 1) column)
     one_put o list e same = ap (insert o) same ∙ ap different (sym (turned (Some o) e))

@@ -1,3 +1,4 @@
+pub mod Columns
 pub mod Ascending
 mod Inserting
 pub mod Places

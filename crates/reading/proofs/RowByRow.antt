@@ -16,7 +16,7 @@ use Rattle.blocks.specs.declared.model.Block.{Block}
 use Rattle.blocks.specs.Blocks.{row_of, Rewritten}
 use Rattle.blocks.specs.Filling.{uses_none_past, filling_rules, Bare}
 use Rattle.ports.specs.declared.port.Port.TheVariants.{Output}
-use Rattle.ports.proofs.Ascending.{row_is}
+use Rattle.ports.proofs.Columns.{row_is}
 use Rattle.texts.specs.declared.selection.Selection.{Selection}
 use Rattle.texts.specs.Text.{code_key}
 use Rattle.texts.specs.Steps as texts

@@ -1,6 +1,7 @@
 // The calls on a row.
 ghost use Rattle.std.specs.Prelude.{◌≡◌, IfSome, is_ok, Decides};
 ghost use Rattle.adders.specs.Rules.{InRange};
+ghost use Rattle.adders.specs.Values.{sample, values_from};
 ghost use Rattle.forms.specs.Answers.{Only};
 ghost use Rattle.chains.specs.Chains.{chain_constant};
 ghost use Rattle.rows.specs.Rules.{KeepsRow};
@@ -52,6 +53,13 @@ impl Row {
         constant_of(self.slots, self.output).unwrap()
     }
 
+    // What a sample of 1 becomes at each source: 1 at the sample itself, 0 at an adder that the row does not use.
+    pub fn values(&self) -> [u32; 9]
+        ensures { result ≡ values_from sample self.now.slots }
+    {
+        slot_values(self.slots).unwrap()
+    }
+
     // What a sample of 1 becomes at an adder, `None` where the row does not use an adder of this number.
     pub fn value(&self, adder: usize) -> Option<u32>
         ensures value { result ≡ row_value_at self.now adder }
@@ -59,7 +67,7 @@ impl Row {
         ensures range { IfSome result InRange }
     {
         let _used = self.adder(adder)?;
-        let values = slot_values(self.slots).unwrap();
+        let values = self.values();
         Some(values[adder])
     }
 }

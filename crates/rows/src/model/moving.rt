@@ -6,7 +6,7 @@ ghost use Rattle.rows.specs.Rows.{adder_at, constant_of};
 ghost use Rattle.rows.specs.Moving.{limit_rules, move_rules, MovedRow, Movable};
 
 use super::Row;
-use adders::{Adder, Refusal, slot_values};
+use adders::{Adder, Refusal};
 use moves::ShiftMove;
 
 impl Row {
@@ -32,7 +32,7 @@ impl Row {
         let own = shift_move.moved_adder(used, adder)?;
         let slots = shift_move.moved_slots(self.slots)?;
         let output = shift_move.moved_operand(self.output, 0)?;
-        let values = slot_values(self.slots).unwrap();
+        let values = self.values();
         own.value(&values[..adder])?;
         Ok(Row { slots, output })
     }

@@ -1,0 +1,4 @@
+pub mod Tables
+pub mod Count
+pub mod PerBit
+pub mod Either

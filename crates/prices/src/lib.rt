@@ -1,0 +1,14 @@
+// Price lists: what adders and multiplexers cost, under laws that each list keeps.
+#![tactic(auto)]
+
+mod count;
+mod either;
+mod list;
+mod parts;
+mod per_bit;
+
+pub use count::CountList;
+pub use either::EitherList;
+pub use list::PriceList;
+pub use parts::{AdderKind, AdderPart, Multiplexer};
+pub use per_bit::{PerBitList, UnitPrices};

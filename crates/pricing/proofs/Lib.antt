@@ -1,0 +1,4 @@
+pub mod Operands
+pub mod Columns
+pub mod Meanings
+pub mod Comparing

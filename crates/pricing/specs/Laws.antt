@@ -1,0 +1,52 @@
+-- What parts are, and how the prices of blocks compare.
+use Rattle.std.specs.Prelude.{◌≡◌, ℕ, ◌+◌, ◌≤◌, true, ◌⊎◌, Some, None, Option, Result}
+use Rattle.adders.specs.declared.refusals.Refusal.{Refusal}
+use Rattle.adders.specs.declared.wiring.Sign.{Sign}
+use Rattle.rows.specs.declared.model.Row.{Row}
+use Rattle.blocks.specs.declared.model.Block.{Block}
+use Rattle.blocks.specs.Blocks.{row_of, Rewritten}
+use Rattle.blocks.specs.Calls.{retiring, Step}
+use Rattle.prices.specs.Tables.{Tables, Lawful}
+use Rattle.pricing.specs.declared.net.Net.{Net}
+use Rattle.pricing.specs.Nets.{value_on, largest_on}
+use Rattle.pricing.specs.Parts.{sign_used, met}
+use Rattle.pricing.specs.Prices.{block_price}
+
+-- m is the largest of what the codes have, 0 where none has anything
+pub record IsLargest (values : ℕ → Option ℕ) (m : ℕ) : Type 0 where
+  pub least : (code v : ℕ) → values code ≡ Some v → v ≤ m
+  pub reached : (m ≡ 0) ⊎ ((code : ℕ) × (values code ≡ Some m))
+
+-- a sign is met exactly where the row of some live code has it
+pub record IsMet (s : Sign) (b : Block) (j : ℕ) : Type 0 where
+  pub found : met s b j ≡ true → (code : ℕ) × (sign_used (row_of b code) j ≡ Some s)
+  pub counted : (code : ℕ) → sign_used (row_of b code) j ≡ Some s → met s b j ≡ true
+
+-- widths and kinds rest on these
+pub record PartsLaw : Type 0 where
+  pub values : (b : Block) (n : Net) → IsLargest (λ code. value_on (row_of b code) n) (largest_on b n)
+  pub signs : (s : Sign) (b : Block) (j : ℕ) → IsMet s b j
+
+-- under every lawful list, a costs no more than b
+abbrev pub NeverDearer : Block → Block → Type 0
+NeverDearer a b = (t : Tables) → Lawful t → block_price t a ≤ block_price t b
+
+-- a has some of the rows of b, and is like it otherwise
+pub record SomeRowsOf (a b : Block) : Type 0 where
+  pub adders : a.adders ≡ b.adders
+  pub width : a.width ≡ b.width
+  pub rows : (code : ℕ) → (row_of a code ≡ None) ⊎ (row_of a code ≡ row_of b code)
+
+-- rows cost nothing or more, whichever there are already
+abbrev pub RowsNeverCheapen : Type 0
+RowsNeverCheapen = (a b : Block) → SomeRowsOf a b → NeverDearer a b
+
+-- so that retiring never makes a block dearer, and a row at an idle code never makes it cheaper
+pub record CallsNeverCheapen : Type 0 where
+  pub retired : (code : ℕ) (before after : Block) (r : Result Unit Refusal) → Step (retiring code) before r after → NeverDearer after before
+  pub added : (code : ℕ) (row : Row) (before after : Block) → row_of before code ≡ None → Rewritten before code (Some row) after → NeverDearer before after
+
+-- the code is idle after it, and the block costs so much less under one list
+pub record Saved (t : Tables) (b : Block) (code less : ℕ) (after : Block) : Type 0 where
+  pub rest : Rewritten b code None after
+  pub saved : block_price t after + less ≡ block_price t b

@@ -1,0 +1,4 @@
+pub mod Nets
+pub mod Parts
+pub mod Prices
+pub mod Laws

@@ -1,0 +1,20 @@
+// What holds of the parts and the price of every block.
+ghost use Rattle.pricing.specs.Laws.{PartsLaw, RowsNeverCheapen, CallsNeverCheapen};
+
+// A width rests on the largest value that some live row has there, and a kind on the signs that live rows have there.
+#[tactic(auto, using(crate::proofs::Meanings::parts_law))]
+pub fn parts_are_what_rows_use()
+    ensures { PartsLaw }
+{}
+
+// Under every lawful list, a block with some of the rows of another costs no more.
+#[tactic(auto, using(crate::proofs::Comparing::rows_never_cheapen))]
+pub fn rows_never_make_a_block_cheaper()
+    ensures { RowsNeverCheapen }
+{}
+
+// Retiring never makes a block dearer, and adding a row never makes it cheaper.
+#[tactic(auto, using(crate::proofs::Comparing::calls_never_cheapen))]
+pub fn retiring_never_makes_a_block_dearer()
+    ensures { CallsNeverCheapen }
+{}
