@@ -3,12 +3,14 @@
 
 mod count;
 mod either;
+mod laws;
 mod list;
 mod parts;
 mod per_bit;
 
 pub use count::CountList;
 pub use either::EitherList;
+pub use laws::supplied_lists_are_lawful;
 pub use list::PriceList;
 pub use parts::{AdderKind, AdderPart, Multiplexer};
 pub use per_bit::{PerBitList, UnitPrices};

@@ -1,4 +1,5 @@
 pub mod Operands
 pub mod Columns
 pub mod Meanings
+pub mod Adding
 pub mod Comparing

@@ -47,7 +47,7 @@ values_law b n = record {
       ];
 }
 
-same_sign : (s : Sign) (o : Option Sign) → is_sign s o ≡ true → o ≡ Some s
+pub same_sign : (s : Sign) (o : Option Sign) → is_sign s o ≡ true → o ≡ Some s
 same_sign Plus (Some Plus) e = refl
 same_sign Minus (Some Minus) e = refl
 same_sign Plus (Some Minus) e = absurd (false≢true e)
@@ -55,7 +55,7 @@ same_sign Minus (Some Plus) e = absurd (false≢true e)
 same_sign Plus None e = absurd (false≢true e)
 same_sign Minus None e = absurd (false≢true e)
 
-own_sign : (s : Sign) → is_sign s (Some s) ≡ true
+pub own_sign : (s : Sign) → is_sign s (Some s) ≡ true
 own_sign Plus = refl
 own_sign Minus = refl
 

@@ -1,15 +1,19 @@
 -- What parts are, and how the prices of blocks compare.
-use Rattle.std.specs.Prelude.{◌≡◌, ℕ, ◌+◌, ◌≤◌, true, ◌⊎◌, Some, None, Option, Result}
+use Rattle.std.specs.Prelude.{◌≡◌, ℕ, ◌+◌, ◌≤◌, true, ◌||◌, ◌⊎◌, List, Some, None, Option, Result, max}
 use Rattle.adders.specs.declared.refusals.Refusal.{Refusal}
+use Rattle.adders.specs.declared.wiring.Operand.{Operand}
 use Rattle.adders.specs.declared.wiring.Sign.{Sign}
 use Rattle.rows.specs.declared.model.Row.{Row}
 use Rattle.blocks.specs.declared.model.Block.{Block}
 use Rattle.blocks.specs.Blocks.{row_of, Rewritten}
 use Rattle.blocks.specs.Calls.{retiring, Step}
+use Rattle.ports.specs.declared.port.Port.{Port}
+use Rattle.ports.specs.Ports.{operand_at}
+use Rattle.ports.specs.Inputs.{insert, inputs}
 use Rattle.prices.specs.Tables.{Tables, Lawful}
 use Rattle.pricing.specs.declared.net.Net.{Net}
 use Rattle.pricing.specs.Nets.{value_on, largest_on}
-use Rattle.pricing.specs.Parts.{sign_used, met}
+use Rattle.pricing.specs.Parts.{sign_used, is_sign, met}
 use Rattle.pricing.specs.Prices.{block_price}
 
 -- m is the largest of what the codes have, 0 where none has anything
@@ -26,6 +30,25 @@ pub record IsMet (s : Sign) (b : Block) (j : ℕ) : Type 0 where
 pub record PartsLaw : Type 0 where
   pub values : (b : Block) (n : Net) → IsLargest (λ code. value_on (row_of b code) n) (largest_on b n)
   pub signs : (s : Sign) (b : Block) (j : ℕ) → IsMet s b j
+
+-- what one row more changes at a part: only what it puts there itself
+
+abbrev pub with_input : Option Operand → List Operand → List Operand
+with_input None os = os
+with_input (Some o) os = insert o os
+
+abbrev pub with_value : Option ℕ → ℕ → ℕ
+with_value None m = m
+with_value (Some v) m = max v m
+
+pub record OneMore (row : Row) (before after : Block) : Type 0 where
+  pub inputs : (p : Port) → inputs after p ≡ with_input (operand_at row p) (inputs before p)
+  pub values : (n : Net) → largest_on after n ≡ with_value (value_on (Some row) n) (largest_on before n)
+  pub signs : (s : Sign) (j : ℕ) → met s after j ≡ (is_sign s (sign_used (Some row) j) || met s before j)
+
+-- so that the price splits part by part
+abbrev pub OneRowMore : Type 0
+OneRowMore = (code : ℕ) (row : Row) (before after : Block) → row_of before code ≡ None → Rewritten before code (Some row) after → OneMore row before after
 
 -- under every lawful list, a costs no more than b
 abbrev pub NeverDearer : Block → Block → Type 0

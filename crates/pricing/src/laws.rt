@@ -1,10 +1,16 @@
 // What holds of the parts and the price of every block.
-ghost use Rattle.pricing.specs.Laws.{PartsLaw, RowsNeverCheapen, CallsNeverCheapen};
+ghost use Rattle.pricing.specs.Laws.{PartsLaw, OneRowMore, RowsNeverCheapen, CallsNeverCheapen};
 
 // A width rests on the largest value that some live row has there, and a kind on the signs that live rows have there.
 #[tactic(auto, using(crate::proofs::Meanings::parts_law))]
 pub fn parts_are_what_rows_use()
     ensures { PartsLaw }
+{}
+
+// A row at an idle code changes each part only by what it puts there itself.
+#[tactic(auto, using(crate::proofs::Adding::one_row_more))]
+pub fn one_row_changes_each_part_alone()
+    ensures { OneRowMore }
 {}
 
 // Under every lawful list, a block with some of the rows of another costs no more.

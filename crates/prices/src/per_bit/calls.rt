@@ -52,6 +52,7 @@ impl PriceList for PerBitList {
     }
 
     fn multiplexer(&self, part: Multiplexer) -> u32 {
-        self.units.two_to_one * (part.inputs() as u32 - 1) * part.width()
+        let unit = self.units.two_to_one;
+        unit * (part.inputs() as u32 - 1) * part.width()
     }
 }
