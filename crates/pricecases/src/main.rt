@@ -5,6 +5,7 @@ mod drawn;
 mod makings;
 mod outcome;
 mod shaped;
+mod steps;
 mod values;
 
 use std::io;

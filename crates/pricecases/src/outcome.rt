@@ -1,4 +1,5 @@
 // What a block costs, and what each retiring saves, as they are printed.
+use crate::steps::StepList;
 use adders::Refusal;
 use blocks::Block;
 use prices::{CountList, EitherList, PerBitList, UnitPrices};
@@ -18,7 +19,7 @@ fn per_bit(units: [u32; 4]) -> Result<AnyList, Refusal> {
     Ok(EitherList::Second(list))
 }
 
-// A block under the count list and three per-bit lists.
+// A block under the count list, three per-bit lists, and a list of a type of its own.
 #[derive(Clone, Copy)]
 struct Prices {
     block: Block,
@@ -47,19 +48,16 @@ impl Prices {
 
 impl fmt::Display for Prices {
     fn fmt<W: fmt::Write>(&self, f: &mut fmt::Formatter<W>) -> fmt::Result {
-        let [count, first, second, third] = &self.lists;
+        let Prices { block, lists } = self;
+        let [count, first, second, third] = lists;
         write!(
             f,
             "count {}, per bit {}",
-            price(&self.block, count),
-            price(&self.block, first)
+            price(block, count),
+            price(block, first)
         )?;
-        write!(
-            f,
-            " {} {}",
-            price(&self.block, second),
-            price(&self.block, third)
-        )
+        write!(f, " {} {}", price(block, second), price(block, third))?;
+        write!(f, ", in steps {}", price(block, &StepList))
     }
 }
 
