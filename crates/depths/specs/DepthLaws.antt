@@ -1,7 +1,7 @@
 -- What depths are.
 --   d   the depth of each source of a block, the sample's and the adders'
 --   e   the depth of each port
-use Rattle.std.specs.Prelude.{◌≡◌, ℕ, ◌+◌, ◌^◌, ◌≤◌, true, [], length, max}
+use Rattle.std.specs.Prelude.{◌≡◌, ℕ, ◌+◌, ◌≤◌, true, [], length, max}
 use Rattle.adders.specs.declared.wiring.Operand.{Operand}
 use Rattle.blocks.specs.declared.model.Block.{Block}
 use Rattle.blocks.specs.Uses.{uses}

@@ -61,7 +61,12 @@ impl fmt::Display for AdderLine {
     fn fmt<W: fmt::Write>(&self, f: &mut fmt::Formatter<W>) -> fmt::Result {
         let adder = self.adder;
         match adder_at(&self.block, adder) {
-            Some(part) => write!(f, "a{adder}={} {}\n", KindWord { kind: part.kind() }, part.width()),
+            Some(part) => write!(
+                f,
+                "a{adder}={} {}\n",
+                KindWord { kind: part.kind() },
+                part.width()
+            ),
             None => write!(f, "a{adder}=-\n"),
         }
     }

@@ -1,5 +1,5 @@
 -- The tables of a per-bit list, when it is made, and that its tables are lawful.
-use Rattle.std.specs.Prelude.{◌≡◌, ℕ, ◌-◌, ◌*◌, ◌≤◌, ◌&&◌, List, [], ◌∷◌, nat_le}
+use Rattle.std.specs.Prelude.{ℕ, ◌-◌, ◌*◌, ◌≤◌, ◌&&◌, List, [], ◌∷◌, nat_le}
 use Rattle.std.proofs.Common.{arith}
 use Rattle.std.proofs.Math.Nat.{mul-le-mul, mul-zero, zero-mul}
 use Rattle.adders.specs.declared.refusals.Refusal.TheVariants.{UnitTooHigh, BothTooCheap}

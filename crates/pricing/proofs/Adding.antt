@@ -1,5 +1,5 @@
 -- What one row more changes.
-use Rattle.std.proofs.Common.{◌≡◌, ◌≢◌, ℕ, ◌<◌, ◌≤◌, Bool, true, false, ◌||◌, List, ◌⊎◌, Some, None, Option, max, sym, refl, ap, ◌∙◌, subst, inl, inr, ⊎_elim, arith}
+use Rattle.std.proofs.Common.{◌≡◌, ℕ, ◌≤◌, Bool, true, false, ◌||◌, ◌⊎◌, Some, None, Option, max, sym, refl, ap, ◌∙◌, subst, inl, inr, arith}
 use Rattle.std.proofs.lemmas.Bool.{cases_order, cases_lt, or_right}
 use Rattle.adders.specs.declared.wiring.Operand.{Operand}
 use Rattle.adders.specs.declared.wiring.Sign.{Sign}
@@ -9,13 +9,13 @@ use Rattle.blocks.specs.declared.model.Block.{Block}
 use Rattle.blocks.specs.Blocks.{row_of, Rewritten}
 use Rattle.ports.specs.declared.port.Port.{Port}
 use Rattle.ports.specs.Ports.{operand_at, put_at}
-use Rattle.ports.specs.Inputs.{insert, inputs, Among, Selected}
+use Rattle.ports.specs.Inputs.{insert, inputs, Among}
 use Rattle.ports.specs.InputLaws.{InputsOf}
 use Rattle.ports.proofs.Ascending.{inputs_law, has_new, has_kept, has_only, insert_ascends}
 use Rattle.pricing.specs.declared.net.Net.{Net}
 use Rattle.pricing.specs.Nets.{value_on, largest_on}
 use Rattle.pricing.specs.Parts.{sign_used, is_sign, met}
-use Rattle.pricing.specs.Laws.{IsLargest, with_input, with_value, OneMore, OneRowMore}
+use Rattle.pricing.specs.Laws.{IsLargest, with_input, with_value, OneRowMore}
 use Rattle.pricing.proofs.Operands.{some_same}
 use Rattle.pricing.proofs.Meanings.{values_law, signs_law, same_sign, own_sign}
 
@@ -68,9 +68,6 @@ module _ (code : ℕ) (row : Row) (before after : Block) (idle : row_of before c
         ]
 
   module _ (p : Port) where
-    put : Option Row → Option Operand
-    put r = put_at r p
-
     was : InputsOf before p (inputs before p)
     was = inputs_law.these before p
 

@@ -1,15 +1,13 @@
 -- What the rows of a block have, read from the last code down.
-use Rattle.std.proofs.Common.{◌≡◌, ℕ, zero, suc, ◌-◌, ◌<◌, ◌≤◌, Bool, true, false, ◌||◌, List, [], ◌∷◌, map, drop, get_or, Some, None, Option, sym, refl, ap, ◌∙◌, max, arith}
+use Rattle.std.proofs.Common.{◌≡◌, ℕ, ◌-◌, ◌<◌, ◌≤◌, false, ◌||◌, List, ◌∷◌, map, drop, Some, None, Option, sym, ap, ◌∙◌, max}
 use Rattle.std.specs.List.{list_any}
-use Rattle.std.proofs.lemmas.List.Folds.{list_any_at}
 use Rattle.adders.specs.declared.wiring.Sign.{Sign}
 use Rattle.blocks.specs.declared.model.Block.{Block}
 use Rattle.blocks.specs.Blocks.{row_of}
-use Rattle.ports.proofs.Columns.{column_at, column_length, column_end, column_turn}
-use Rattle.prices.specs.declared.parts.AdderKind.{AdderKind}
+use Rattle.ports.proofs.Columns.{column_end, column_turn}
 use Rattle.pricing.specs.declared.net.Net.{Net}
-use Rattle.pricing.specs.Nets.{largest, value_on, largest_on}
-use Rattle.pricing.specs.Parts.{sign_used, is_sign, met}
+use Rattle.pricing.specs.Nets.{largest, value_on}
+use Rattle.pricing.specs.Parts.{sign_used, is_sign}
 
 module _ (b : Block) (n : Net) where
   abbrev values : List (Option ℕ)

@@ -1,8 +1,7 @@
 -- A block with some of the rows of another costs no more.
-use Rattle.std.proofs.Common.{◌≡◌, ℕ, zero, suc, ◌+◌, ◌-◌, ◌<◌, ◌≤◌, Bool, true, false, length, ◌⊎◌, Some, None, Ok, Err, Option, Result, sym, refl, ap, ◌∙◌, subst, inl, inr, arith}
+use Rattle.std.proofs.Common.{◌≡◌, ℕ, zero, suc, ◌-◌, ◌≤◌, Bool, true, false, length, Some, None, Ok, Err, Option, Result, sym, refl, ap, ◌∙◌, inl, inr, arith}
 use Rattle.std.proofs.lemmas.Bool.{cases_order}
 use Rattle.adders.specs.declared.refusals.Refusal.{Refusal}
-use Rattle.adders.specs.declared.wiring.Operand.{Operand}
 use Rattle.adders.specs.declared.wiring.Sign.{Sign}
 use Rattle.adders.specs.declared.wiring.Sign.TheVariants.{Plus, Minus}
 use Rattle.adders.proofs.Broken.{some_none}
@@ -13,11 +12,11 @@ use Rattle.blocks.specs.Calls.{retiring, Step}
 use Rattle.ports.specs.declared.port.Port.{Port}
 use Rattle.ports.specs.declared.port.Port.TheVariants.{Left, Right, Output}
 use Rattle.ports.specs.Ports.{put_at}
-use Rattle.ports.specs.Inputs.{inputs, Among, Selected}
+use Rattle.ports.specs.Inputs.{inputs}
 use Rattle.ports.proofs.Ascending.{inputs_law, ascending_fewer}
 use Rattle.bits.proofs.Least.{bits_more, bits_few}
 use Rattle.prices.specs.declared.parts.AdderKind.{AdderKind}
-use Rattle.prices.specs.declared.parts.AdderKind.TheVariants.{Adds, Subtracts, Both}
+use Rattle.prices.specs.declared.parts.AdderKind.TheVariants.{Adds, Subtracts}
 use Rattle.prices.specs.Tables.{AdderTable, MuxTable, LawfulAdders, LawfulMuxes, Tables, Lawful}
 use Rattle.pricing.specs.declared.net.Net.{Net}
 use Rattle.pricing.specs.declared.net.Net.TheVariants.{OfAdder, OfPort}
@@ -112,7 +111,7 @@ module _ (a b : Block) (some : SomeRowsOf a b) where
       let n : Net = OfAdder j in
       let wide : kind_price price (kind_at a j) (width_of a n) ≤ kind_price price (kind_at a j) (width_of b n) = kind_wider price law (kind_at a j) (width_of a n) (width_of b n) (width_some a n) (wider a b some n) (width_few b n) in
       let more : kind_price price (kind_at a j) (width_of b n) ≤ kind_price price (kind_at b j) (width_of b n) =
-          kind_more price law (width_of b n) (width_some b n) (width_few b n) (met Plus a j) (met Minus a j) (met Plus b j) (met Minus b j) (more_signs a b some Plus j) (more_signs a b some Minus j) in
+      kind_more price law (width_of b n) (width_some b n) (width_few b n) (met Plus a j) (met Minus a j) (met Plus b j) (met Minus b j) (more_signs a b some Plus j) (more_signs a b some Minus j) in
       omega arith
 
   pub never_cheapen : NeverDearer a b

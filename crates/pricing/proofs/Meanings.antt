@@ -10,7 +10,7 @@ use Rattle.blocks.specs.Blocks.{row_of}
 use Rattle.ports.proofs.Columns.{column_at}
 use Rattle.pricing.specs.declared.net.Net.{Net}
 use Rattle.pricing.specs.Nets.{largest, value_on, largest_on}
-use Rattle.pricing.specs.Parts.{sign_used, is_sign, met}
+use Rattle.pricing.specs.Parts.{sign_used, is_sign}
 use Rattle.pricing.proofs.Operands.{some_same}
 use Rattle.pricing.specs.Laws.{IsLargest, IsMet, PartsLaw}
 
