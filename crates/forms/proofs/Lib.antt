@@ -1,2 +1,3 @@
 pub mod Breaks
 pub mod Digits
+pub mod KeyLines

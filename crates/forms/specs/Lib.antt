@@ -1,3 +1,4 @@
 pub mod Answers
 pub mod Breaking
 pub mod Digits
+pub mod Keys

@@ -3,8 +3,10 @@
 
 mod digit;
 mod error;
+mod keyed;
 mod scanner;
 
 pub use digit::Digit;
 pub use error::FormError;
+pub use keyed::{Key, Keyed};
 pub use scanner::{Scanner, read};
