@@ -1,3 +1,4 @@
 pub mod Breaks
 pub mod Digits
 pub mod KeyLines
+pub mod PartLines

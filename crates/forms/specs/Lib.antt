@@ -2,3 +2,4 @@ pub mod Answers
 pub mod Breaking
 pub mod Digits
 pub mod Keys
+pub mod Parts
