@@ -1,6 +1,6 @@
 -- The digits of a number, and what they say.
 use Rattle.std.proofs.Common.{◌≡◌, ℕ, zero, suc, ◌+◌, ◌-◌, ◌*◌, ◌/◌, ◌%◌, ◌^◌, ◌<◌, ◌≤◌, ◌⊎◌, List, [], ◌∷◌, ◌++◌, length, get_or, ℤ, pos, negsuc, decimal, sym, refl, ap, ◌∙◌, inl, inr, arith}
-use Rattle.std.proofs.lemmas.Fmt.{decimal_step, decimal_is_IsNumeral, digits_value-decimal}
+use Rattle.std.proofs.lemmas.Fmt.{decimal_digit, decimal_step, decimal_is_IsNumeral, digits_value-decimal, first_decimal}
 use Rattle.std.proofs.lemmas.Str.Parse.{IsNumeralModel, numerals_by_fold, tells_digits, digit_at}
 use Rattle.std.proofs.lemmas.Int.{ints}
 use Rattle.std.specs.Str.Parse.{AllDigits}
@@ -37,6 +37,19 @@ grows n d low small fits =
     let tens : (10 * n + d) / 10 ≡ n = omega arith in
     let units : (10 * n + d) % 10 ≡ d = omega arith in
     sym (decimal_step (10 * n + d) (omega arith) fits ∙ simp (tens, units))
+
+-- only 0 begins with the digit 0
+pub zero_first : (n : ℕ) (cs : List ℕ) → n < 2 ^ 64 → 48 ∷ cs ≡ decimal n → n ≡ 0
+zero_first zero cs h e = refl
+zero_first (suc n) cs h e = let above = first_decimal (suc n) (omega arith) h in let first : get_or (decimal (suc n)) 0 0 ≡ 48 = ap (λ l. get_or l 0 0) (sym e) in absurd (omega arith)
+
+-- no digit follows a zero
+pub zero_alone : (n c : ℕ) (rest : List ℕ) → n < 2 ^ 64 → 48 ∷ c ∷ rest ≡ decimal n → ⊥
+zero_alone n c rest h e =
+    let none = zero_first n (c ∷ rest) h e in
+    let one : length (decimal n) ≡ 1 = ap (λ k. length (decimal k)) none ∙ ap length (decimal_digit 0 (omega arith)) in
+    let more = ap length e in
+    omega arith
 
 -- a word's magnitude
 pub held_above : (n : ℕ) → InWord (pos n) → n ≤ 2 ^ 63 - 1

@@ -14,17 +14,12 @@ use Rattle.integers.specs.declared.scan.Part.{Part}
 use Rattle.integers.specs.declared.scan.Part.TheVariants.{Nothing, Minus, Number}
 use Rattle.integers.specs.Form.{Integer, Form}
 use Rattle.integers.specs.Scan.{Reached, Continued, longer, digit_said, minus_said}
-use Rattle.integers.proofs.Numbers.{at_least, grows, held_above, held_below, byte_at}
+use Rattle.integers.proofs.Numbers.{at_least, grows, zero_first, zero_alone, held_above, held_below, byte_at}
 
 -- Numbers and their first bytes.
 
 first_digit : (n : ℕ) (c : ℕ) (cs : List ℕ) → n < 2 ^ 64 → c ∷ cs ≡ decimal n → IsInRange 48 57 c
 first_digit n c cs h e = subst (λ l. IsInRange 48 57 (get_or l 0 0)) (sym e) (digit_at (decimal n) 0 (decimal_is_IsNumeral n h).0.1 (decimal_nonempty n h))
-
--- only 0 begins with the digit 0
-zero_first : (n : ℕ) (cs : List ℕ) → n < 2 ^ 64 → 48 ∷ cs ≡ decimal n → n ≡ 0
-zero_first zero cs h e = refl
-zero_first (suc n) cs h e = let above = first_decimal (suc n) (omega arith) h in let first : get_or (decimal (suc n)) 0 0 ≡ 48 = ap (λ l. get_or l 0 0) (sym e) in absurd (omega arith)
 
 -- a number in digits is none with a minus
 not_minus : (n : ℕ) (rest : List ℕ) (cs : List ℕ) → n < 2 ^ 64 → decimal n ++ rest ≡ 45 ∷ cs → ⊥
@@ -83,12 +78,7 @@ pub zero_off : (bs : List ℕ) (d : ℕ) → Integer (pos 0) bs → ¬ Viable Fo
 zero_off bs d says v = let g = begun bs (48 ∷ []) (48 + d) (says.written ∙ decimal_digit 0 (omega arith)) v in by g.rest g.number g.held g.written
   where
     by : (rest : List ℕ) (z : ℤ) → InWord z → 48 ∷ (48 + d) ∷ rest ≡ signed_decimal z → ⊥
-    by rest (pos m) held w =
-        let top = held_above m held in
-        let none = zero_first m ((48 + d) ∷ rest) (omega arith) w in
-        let one : length (decimal m) ≡ 1 = ap (λ k. length (decimal k)) none ∙ ap length (decimal_digit 0 (omega arith)) in
-        let more = ap length w in
-        omega arith
+    by rest (pos m) held w = let top = held_above m held in zero_alone m (48 + d) rest (omega arith) w
     by rest (negsuc m) held w = let c : ◌≡◌ {A = ℕ} 48 45 = cc w in omega arith
 
 longer_on : (bs : List ℕ) (z : ℤ) (d : ℕ) → Integer z bs → (z ≡ pos 0 → ⊥) → d ≤ 9 → InWord (longer z d) → Integer (longer z d) (bs ++ (48 + d) ∷ [])

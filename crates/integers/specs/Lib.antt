@@ -1,2 +1,4 @@
 pub mod Form
+pub mod Naturals
+pub mod NaturalScan
 pub mod Scan
