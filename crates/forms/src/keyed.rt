@@ -6,7 +6,7 @@ use crate::scanner::Scanner;
 use std::marker::PhantomData;
 
 // A kind of line, which names the bytes that it begins with.
-pub trait Key: Copy {
+pub trait Key {
     ghost key: { List ℕ };
 
     fn key() -> &'static [u8]

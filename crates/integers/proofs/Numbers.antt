@@ -57,9 +57,3 @@ held_above n h = let m = h.most in omega (arith, ints)
 
 pub held_below : (n : ℕ) → InWord (negsuc n) → suc n ≤ 2 ^ 63
 held_below n h = let l = h.least in omega (arith, ints)
-
--- every byte of a printed number is a digit, but a minus at its front
-pub byte_at : (z : ℤ) (i : ℕ) → InWord z → i < length (signed_decimal z) → IsInRange 48 57 (get_or (signed_decimal z) i 0) ⊎ ((i ≡ 0) × (get_or (signed_decimal z) i 0 ≡ 45))
-byte_at (pos n) i h l = inl (digit_at (decimal n) i (decimal_is_IsNumeral n (let m = held_above n h in omega arith)).0.1 l)
-byte_at (negsuc n) zero h l = inr (refl, refl)
-byte_at (negsuc n) (suc i) h l = inl (digit_at (decimal (suc n)) i (decimal_is_IsNumeral (suc n) (let m = held_below n h in omega arith)).0.1 (omega arith))

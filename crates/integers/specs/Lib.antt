@@ -1,3 +1,4 @@
+pub mod Decimals
 pub mod Form
 pub mod Naturals
 pub mod NaturalScan

@@ -1,11 +1,10 @@
 -- What is read of a number without a sign, and how it goes on. The digits are the bytes from 48.
 use Rattle.std.specs.Prelude.{◌≡◌, ℕ, ◌+◌, ◌<◌, ◌≤◌, List, [], ◌∷◌, ◌++◌, decimal}
-use Rattle.std.proofs.Common.{◌^◌, length, get_or, sym, ap, ◌∙◌, subst, append-nil, append_assoc, length-append, arith}
-use Rattle.std.proofs.Math.Seq.{get_or-append_seam}
-use Rattle.std.proofs.lemmas.Fmt.{decimal_digit, decimal_is_IsNumeral}
-use Rattle.std.proofs.lemmas.Str.Parse.{digit_at}
+use Rattle.std.proofs.Common.{sym, ◌∙◌, subst, append-nil, append_assoc, arith}
+use Rattle.std.proofs.lemmas.Fmt.{decimal_digit}
 use Rattle.std.specs.Int.{IsInRange}
 use Rattle.forms.specs.Breaking.{Viable}
+use Rattle.integers.specs.Decimals.{digit_byte}
 use Rattle.integers.specs.Naturals.{NineDigits, NaturalForm}
 use Rattle.integers.specs.declared.natural.Natural.{Natural}
 use Rattle.integers.specs.declared.natural.Natural.TheVariants.{Nothing, Number}
@@ -23,14 +22,7 @@ pub natural_viable : (bs : List ℕ) (natural : Natural) → NaturalReached bs n
 natural_viable bs Nothing e = (48 ∷ [], (0, subst (λ l. NineDigits 0 (l ++ 48 ∷ [])) (sym e) (one_digit 0 (omega arith))))
 natural_viable bs (Number n) says = ([], (n, subst (NineDigits n) (sym (append-nil bs)) says))
 
--- Every byte of a number is a digit, so that none is a space.
-pub digit_byte : (n b : ℕ) (bs rest : List ℕ) → n < 2 ^ 64 → bs ++ b ∷ rest ≡ decimal n → IsInRange 48 57 b
-digit_byte n b bs rest h e =
-    let long = ap length e in
-    let parts = length-append bs (b ∷ rest) in
-    let here : get_or (decimal n) (length bs) 0 ≡ b = ap (λ l. get_or l (length bs) 0) (sym e) ∙ get_or-append_seam bs b rest 0 in
-    subst (IsInRange 48 57) here (digit_at (decimal n) (length bs) (decimal_is_IsNumeral n h).0.1 (omega arith))
-
+-- No number goes on behind a byte that is no digit, such as a space.
 pub natural_byte : (b : ℕ) (bs : List ℕ) → Viable NaturalForm (bs ++ b ∷ []) → IsInRange 48 57 b
 natural_byte b bs (rest, (n, says)) = let small = says.small in digit_byte n b bs rest (omega arith) (sym (append_assoc bs (b ∷ []) rest) ∙ says.written)
 
