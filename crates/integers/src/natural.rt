@@ -28,6 +28,7 @@ impl Scanner for Natural {
         Natural::Nothing
     }
 
+    #[tactic(auto, using(crate::proofs::NaturalTexts::first_on, crate::proofs::NaturalTexts::digit_on))]
     fn step(self, byte: u8) -> Option<Natural> {
         let digit = u32::from(Digit::of(byte)?.value());
         match self {
