@@ -46,3 +46,12 @@ module _ (F : List ℕ → Type 0) where
   pub ended : {V : Type 0} (Says : List ℕ → V → Type 0) (bs : List ℕ) (said : Option V) → Viable F bs → MatchOption said (¬ F bs) (Says bs) → MatchResult (ok_or said (record { place = length bs })) (Says bs) (λ (e : FormError). BrokenAt F bs e.place)
   ended Says bs (Some v) h is = is
   ended Says bs None h is = stops_short bs h is
+
+-- two forms that hold of the same bytes are broken at the same places
+pub broken_alike : (F G : List ℕ → Type 0) → ((bs : List ℕ) → F bs → G bs) → ((bs : List ℕ) → G bs → F bs) → (bs : List ℕ) (i : ℕ) → BrokenAt F bs i → BrokenAt G bs i
+broken_alike F G there back bs i b = record {
+  within = b.within;
+  before = (b.before.0, there _ b.before.1);
+  after = λ h v. b.after h (v.0, back _ v.1);
+  broken = λ g. b.broken (back bs g);
+}

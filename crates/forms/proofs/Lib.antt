@@ -1,2 +1,4 @@
 pub mod Breaks
 pub mod Digits
+pub mod KeyLines
+pub mod PartLines

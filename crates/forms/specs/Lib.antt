@@ -1,3 +1,5 @@
 pub mod Answers
 pub mod Breaking
 pub mod Digits
+pub mod Keys
+pub mod Parts

@@ -3,8 +3,12 @@
 
 mod digit;
 mod error;
+mod keyed;
+mod parted;
 mod scanner;
 
 pub use digit::Digit;
 pub use error::FormError;
+pub use keyed::{Key, Keyed};
+pub use parted::{Parted, Word};
 pub use scanner::{Scanner, read};

@@ -1,6 +1,6 @@
 -- The digits of a number, and what they say.
 use Rattle.std.proofs.Common.{◌≡◌, ℕ, zero, suc, ◌+◌, ◌-◌, ◌*◌, ◌/◌, ◌%◌, ◌^◌, ◌<◌, ◌≤◌, ◌⊎◌, List, [], ◌∷◌, ◌++◌, length, get_or, ℤ, pos, negsuc, decimal, sym, refl, ap, ◌∙◌, inl, inr, arith}
-use Rattle.std.proofs.lemmas.Fmt.{decimal_step, decimal_is_IsNumeral, digits_value-decimal}
+use Rattle.std.proofs.lemmas.Fmt.{decimal_digit, decimal_step, decimal_is_IsNumeral, digits_value-decimal, first_decimal}
 use Rattle.std.proofs.lemmas.Str.Parse.{IsNumeralModel, numerals_by_fold, tells_digits, digit_at}
 use Rattle.std.proofs.lemmas.Int.{ints}
 use Rattle.std.specs.Str.Parse.{AllDigits}
@@ -38,15 +38,22 @@ grows n d low small fits =
     let units : (10 * n + d) % 10 ≡ d = omega arith in
     sym (decimal_step (10 * n + d) (omega arith) fits ∙ simp (tens, units))
 
+-- only 0 begins with the digit 0
+pub zero_first : (n : ℕ) (cs : List ℕ) → n < 2 ^ 64 → 48 ∷ cs ≡ decimal n → n ≡ 0
+zero_first zero cs h e = refl
+zero_first (suc n) cs h e = let above = first_decimal (suc n) (omega arith) h in let first : get_or (decimal (suc n)) 0 0 ≡ 48 = ap (λ l. get_or l 0 0) (sym e) in absurd (omega arith)
+
+-- no digit follows a zero
+pub zero_alone : (n c : ℕ) (rest : List ℕ) → n < 2 ^ 64 → 48 ∷ c ∷ rest ≡ decimal n → ⊥
+zero_alone n c rest h e =
+    let none = zero_first n (c ∷ rest) h e in
+    let one : length (decimal n) ≡ 1 = ap (λ k. length (decimal k)) none ∙ ap length (decimal_digit 0 (omega arith)) in
+    let more = ap length e in
+    omega arith
+
 -- a word's magnitude
 pub held_above : (n : ℕ) → InWord (pos n) → n ≤ 2 ^ 63 - 1
 held_above n h = let m = h.most in omega (arith, ints)
 
 pub held_below : (n : ℕ) → InWord (negsuc n) → suc n ≤ 2 ^ 63
 held_below n h = let l = h.least in omega (arith, ints)
-
--- every byte of a printed number is a digit, but a minus at its front
-pub byte_at : (z : ℤ) (i : ℕ) → InWord z → i < length (signed_decimal z) → IsInRange 48 57 (get_or (signed_decimal z) i 0) ⊎ ((i ≡ 0) × (get_or (signed_decimal z) i 0 ≡ 45))
-byte_at (pos n) i h l = inl (digit_at (decimal n) i (decimal_is_IsNumeral n (let m = held_above n h in omega arith)).0.1 l)
-byte_at (negsuc n) zero h l = inr (refl, refl)
-byte_at (negsuc n) (suc i) h l = inl (digit_at (decimal (suc n)) i (decimal_is_IsNumeral (suc n) (let m = held_below n h in omega arith)).0.1 (omega arith))

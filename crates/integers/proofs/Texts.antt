@@ -12,19 +12,12 @@ use Rattle.arith.specs.Words.{InWord}
 use Rattle.forms.specs.Breaking.{Viable}
 use Rattle.integers.specs.declared.scan.Part.{Part}
 use Rattle.integers.specs.declared.scan.Part.TheVariants.{Nothing, Minus, Number}
+use Rattle.integers.specs.Decimals.{digit_byte}
 use Rattle.integers.specs.Form.{Integer, Form}
 use Rattle.integers.specs.Scan.{Reached, Continued, longer, digit_said, minus_said}
-use Rattle.integers.proofs.Numbers.{at_least, grows, held_above, held_below, byte_at}
+use Rattle.integers.proofs.Numbers.{at_least, grows, zero_first, zero_alone, held_above, held_below}
 
 -- Numbers and their first bytes.
-
-first_digit : (n : ℕ) (c : ℕ) (cs : List ℕ) → n < 2 ^ 64 → c ∷ cs ≡ decimal n → IsInRange 48 57 c
-first_digit n c cs h e = subst (λ l. IsInRange 48 57 (get_or l 0 0)) (sym e) (digit_at (decimal n) 0 (decimal_is_IsNumeral n h).0.1 (decimal_nonempty n h))
-
--- only 0 begins with the digit 0
-zero_first : (n : ℕ) (cs : List ℕ) → n < 2 ^ 64 → 48 ∷ cs ≡ decimal n → n ≡ 0
-zero_first zero cs h e = refl
-zero_first (suc n) cs h e = let above = first_decimal (suc n) (omega arith) h in let first : get_or (decimal (suc n)) 0 0 ≡ 48 = ap (λ l. get_or l 0 0) (sym e) in absurd (omega arith)
 
 -- a number in digits is none with a minus
 not_minus : (n : ℕ) (rest : List ℕ) (cs : List ℕ) → n < 2 ^ 64 → decimal n ++ rest ≡ 45 ∷ cs → ⊥
@@ -49,12 +42,12 @@ begun bs front b e (rest, (z, says)) = record { rest = rest; number = z; held = 
 
 -- A byte that is no digit stands at the front alone, and is the minus.
 odd_byte : (bs : List ℕ) (b : ℕ) → Begun bs b → ¬ IsInRange 48 57 b → (length bs ≡ 0) × (b ≡ 45)
-odd_byte bs b v odd =
-    let z = v.number in
-    let n = length bs in
-    let there : get_or (signed_decimal z) n 0 ≡ b = ap (λ l. get_or l n 0) (sym v.written) ∙ get_or-append_right bs (b ∷ v.rest) n n 0 refl (omega arith) ∙ ap (λ k. get_or (b ∷ v.rest) k 0) (let w : n - n ≡ 0 = omega arith in w) in
-    let room : n < length (signed_decimal z) = let l = ap length (sym v.written) in let k = length-append bs (b ∷ v.rest) in omega arith in
-    ⊎_elim (λ d. absurd (odd (subst (IsInRange 48 57) there d))) (λ m. (m.0, sym there ∙ m.1)) (byte_at z n v.held room)
+odd_byte bs b v odd = by bs v.rest v.number v.held v.written
+  where
+    by : (bs rest : List ℕ) (z : ℤ) → InWord z → bs ++ b ∷ rest ≡ signed_decimal z → (length bs ≡ 0) × (b ≡ 45)
+    by bs rest (pos m) held w = let top = held_above m held in absurd (odd (digit_byte m b bs rest (omega arith) w))
+    by [] rest (negsuc m) held w = (refl, cc)
+    by (c ∷ cs) rest (negsuc m) held w = let top = held_below m held in absurd (odd (digit_byte (suc m) b cs rest (omega arith) (cc)))
 
 pub odd_off : (bs : List ℕ) (p : Part) (b : ℕ) → Reached bs p → ¬ IsInRange 48 57 b → ((p ≡ Nothing) → b ≡ 45 → ⊥) → ¬ Viable Form (bs ++ b ∷ [])
 odd_off bs Nothing b e odd other v = other refl (odd_byte bs b (begun bs bs b refl v) odd).1
@@ -75,7 +68,7 @@ pub minus_off : (bs : List ℕ) (d : ℕ) → bs ≡ 45 ∷ [] → d ≡ 0 → �
 minus_off bs d e zero_is v = let g = begun bs (45 ∷ []) 48 e (subst (λ n. Viable Form (bs ++ (48 + n) ∷ [])) zero_is v) in by g.rest g.number g.held g.written
   where
     by : (rest : List ℕ) (z : ℤ) → InWord z → 45 ∷ 48 ∷ rest ≡ signed_decimal z → ⊥
-    by rest (pos m) held w = let top = held_above m held in let c = first_digit m 45 (48 ∷ rest) (omega arith) w in omega (arith, c.0)
+    by rest (pos m) held w = let top = held_above m held in let c = digit_byte m 45 [] (48 ∷ rest) (omega arith) w in omega (arith, c.0)
     by rest (negsuc m) held w = let top = held_below m held in let n = zero_first (suc m) rest (omega arith) (cc w) in omega arith
 
 -- no digit follows a zero
@@ -83,12 +76,7 @@ pub zero_off : (bs : List ℕ) (d : ℕ) → Integer (pos 0) bs → ¬ Viable Fo
 zero_off bs d says v = let g = begun bs (48 ∷ []) (48 + d) (says.written ∙ decimal_digit 0 (omega arith)) v in by g.rest g.number g.held g.written
   where
     by : (rest : List ℕ) (z : ℤ) → InWord z → 48 ∷ (48 + d) ∷ rest ≡ signed_decimal z → ⊥
-    by rest (pos m) held w =
-        let top = held_above m held in
-        let none = zero_first m ((48 + d) ∷ rest) (omega arith) w in
-        let one : length (decimal m) ≡ 1 = ap (λ k. length (decimal k)) none ∙ ap length (decimal_digit 0 (omega arith)) in
-        let more = ap length w in
-        omega arith
+    by rest (pos m) held w = let top = held_above m held in zero_alone m (48 + d) rest (omega arith) w
     by rest (negsuc m) held w = let c : ◌≡◌ {A = ℕ} 48 45 = cc w in omega arith
 
 longer_on : (bs : List ℕ) (z : ℤ) (d : ℕ) → Integer z bs → (z ≡ pos 0 → ⊥) → d ≤ 9 → InWord (longer z d) → Integer (longer z d) (bs ++ (48 + d) ∷ [])
@@ -111,7 +99,7 @@ longer_held bs z d says v = let g = begun bs (signed_decimal z) (48 + d) says.wr
         let least = at_least n m d rest (omega arith) (omega arith) e in
         record { least = omega (arith, ints); most = omega (arith, ints) }
     by rest (pos n) (negsuc m) h held e = let low = held_above n h in absurd (not_minus n ((48 + d) ∷ rest) (decimal (suc m)) (omega arith) e)
-    by rest (negsuc n) (pos m) h held e = let top = held_above m held in let c = first_digit m 45 (decimal (suc n) ++ (48 + d) ∷ rest) (omega arith) e in absurd (omega (arith, c.0))
+    by rest (negsuc n) (pos m) h held e = let top = held_above m held in let c = digit_byte m 45 [] (decimal (suc n) ++ (48 + d) ∷ rest) (omega arith) e in absurd (omega (arith, c.0))
     by rest (negsuc n) (negsuc m) h held e =
         let low = held_below n h in
         let top = held_below m held in
@@ -129,6 +117,6 @@ continued_reached bs None is = is
 -- Where a number may stop.
 pub short_off : (bs : List ℕ) (p : Part) → Reached bs p → ((z : ℤ) → p ≡ Number z → ⊥) → ¬ Form bs
 short_off bs Nothing e other (z, says) = let some = some_digits z says.held in let none = ap length (sym says.written ∙ e) in omega arith
-short_off bs Minus e other (pos m, says) = let top = held_above m says.held in let c = first_digit m 45 [] (omega arith) (sym e ∙ says.written) in omega (arith, c.0)
+short_off bs Minus e other (pos m, says) = let top = held_above m says.held in let c = digit_byte m 45 [] [] (omega arith) (sym e ∙ says.written) in omega (arith, c.0)
 short_off bs Minus e other (negsuc m, says) = let top = held_below m says.held in let some = decimal_nonempty (suc m) (omega arith) in let none = ap length (sym e ∙ says.written) in omega arith
 short_off bs (Number z) e other says = other z refl

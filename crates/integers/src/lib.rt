@@ -1,7 +1,9 @@
-// Whole numbers of 64 bits as lines of text.
+// Whole numbers as text: of 64 bits as lines, and without a sign as parts of lines.
 #![tactic(auto)]
 
+mod natural;
 mod reader;
 mod scan;
 
+pub use natural::Natural;
 pub use reader::read_integer;

@@ -1,0 +1,103 @@
+-- Lines of unit prices, as they are read part by part.
+use Rattle.std.proofs.Common.{◌≡◌, ℕ, ◌^◌, ◌<◌, List, [], ◌∷◌, ◌++◌, Ok, Err, Result, decimal, sym, refl, ap, ◌∙◌, append-nil, subst, arith}
+use Rattle.std.proofs.lemmas.List.{append_cancel_left}
+use Rattle.std.proofs.lemmas.Fmt.{decimal_injective}
+use Rattle.forms.specs.declared.error.FormError.{FormError}
+use Rattle.forms.specs.Breaking.{Viable, BrokenAt}
+use Rattle.forms.specs.Keys.{KeyThen}
+use Rattle.forms.specs.Parts.{SpaceBetween}
+use Rattle.forms.proofs.Breaks.{breaks_once, broken_alike}
+use Rattle.forms.proofs.PartLines.{one_seam}
+use Rattle.integers.specs.Naturals.{NineDigits, NaturalForm}
+use Rattle.integers.specs.NaturalScan.{natural_unspaced}
+use Rattle.prices.specs.declared.per_bit.UnitPrices.{UnitPrices}
+use Rattle.units.specs.Form.{key, units_text, UnitsLine, Form, Reading}
+
+-- a line as its parts are read
+abbrev pub PartsLine : UnitPrices → List ℕ → Type 0
+PartsLine u = KeyThen key (SpaceBetween (NineDigits u.adds) (SpaceBetween (NineDigits u.subtracts) (SpaceBetween (NineDigits u.both) (NineDigits u.two_to_one))))
+
+abbrev pub PartsForm : List ℕ → Type 0
+PartsForm = KeyThen key (SpaceBetween NaturalForm (SpaceBetween NaturalForm (SpaceBetween NaturalForm NaturalForm)))
+
+pub told : (u : UnitPrices) (bs : List ℕ) → PartsLine u bs → UnitsLine u bs
+told u bs line =
+    let first = line.holds in
+    let second = first.behind in
+    let third = second.behind in
+    record {
+      written =
+          line.whole ∙ ap (λ l. key ++ l) (
+            first.whole ∙ (λ i. first.before.written i ++ 32 ∷ second.whole i)
+            ∙ ap (λ l. decimal u.adds ++ 32 ∷ l) ((λ i. second.before.written i ++ 32 ∷ third.whole i)
+            ∙ ap (λ l. decimal u.subtracts ++ 32 ∷ l) (λ i. third.before.written i ++ 32 ∷ third.behind.written i))
+          );
+      adds = first.before.small;
+      subtracts = second.before.small;
+      both = third.before.small;
+      two_to_one = third.behind.small;
+    }
+
+formed : (bs : List ℕ) → PartsForm bs → Form bs
+formed bs line =
+    let first = line.holds in
+    let second = first.behind in
+    let third = second.behind in
+    let u : UnitPrices = record { adds = first.before.0; subtracts = second.before.0; both = third.before.0; two_to_one = third.behind.0 } in (
+      u,
+      told u bs (record {
+        rest = line.rest;
+        whole = line.whole;
+        holds = record { front = first.front; back = first.back; whole = first.whole; before = first.before.1; behind = record { front = second.front; back = second.back; whole = second.whole; before = second.before.1; behind = record { front = third.front; back = third.back; whole = third.whole; before = third.before.1; behind = third.behind.1 } } };
+      }),
+    )
+
+parted : (bs : List ℕ) → Form bs → PartsForm bs
+parted bs (u, is) = record {
+  rest = decimal u.adds ++ 32 ∷ (decimal u.subtracts ++ 32 ∷ (decimal u.both ++ 32 ∷ decimal u.two_to_one));
+  whole = is.written;
+  holds = record {
+    front = decimal u.adds;
+    back = decimal u.subtracts ++ 32 ∷ (decimal u.both ++ 32 ∷ decimal u.two_to_one);
+    whole = refl;
+    before = (u.adds, record { small = is.adds; written = refl });
+    behind = record {
+      front = decimal u.subtracts;
+      back = decimal u.both ++ 32 ∷ decimal u.two_to_one;
+      whole = refl;
+      before = (u.subtracts, record { small = is.subtracts; written = refl });
+      behind = record {
+        front = decimal u.both;
+        back = decimal u.two_to_one;
+        whole = refl;
+        before = (u.both, record { small = is.both; written = refl });
+        behind = (u.two_to_one, record { small = is.two_to_one; written = refl });
+      };
+    };
+  };
+}
+
+pub broken : (bs : List ℕ) (i : ℕ) → BrokenAt PartsForm bs i → BrokenAt Form bs i
+broken = broken_alike PartsForm Form formed parted
+
+-- A line is read in one way.
+number_one : (m n : ℕ) (x y : List ℕ) → m < 10 ^ 9 → n < 10 ^ 9 → decimal m ++ 32 ∷ x ≡ decimal n ++ 32 ∷ y → (m ≡ n) × (x ≡ y)
+number_one m n x y small low e =
+    let parts = one_seam NaturalForm natural_unspaced (decimal m) x (decimal n) y (m, record { small = small; written = refl }) ([], (n, record { small = low; written = append-nil (decimal n) })) e in
+    (decimal_injective m n (omega arith) (omega arith) parts.0, parts.1)
+
+line_one : (u v : UnitPrices) (bs : List ℕ) → UnitsLine u bs → UnitsLine v bs → u ≡ v
+line_one u v bs a b =
+    let first = number_one u.adds v.adds _ _ a.adds b.adds (append_cancel_left key _ _ (sym a.written ∙ b.written)) in
+    let second = number_one u.subtracts v.subtracts _ _ a.subtracts b.subtracts first.1 in
+    let third = number_one u.both v.both _ _ a.both b.both second.1 in
+    let low = a.two_to_one in
+    let small = b.two_to_one in
+    let fourth = decimal_injective u.two_to_one v.two_to_one (omega arith) (omega arith) third.1 in
+    λ i. record { adds = first.0 i; subtracts = second.0 i; both = third.0 i; two_to_one = fourth i }
+
+pub reading_one : (bs : List ℕ) (r s : Result UnitPrices FormError) → Reading bs s → Reading bs r → s ≡ r
+reading_one bs (Ok u) (Ok v) b a = ap Ok (line_one v u bs b a)
+reading_one bs (Ok u) (Err j) b a = absurd (b.broken (u, a))
+reading_one bs (Err i) (Ok v) b a = absurd (a.broken (v, b))
+reading_one bs (Err i) (Err j) b a = ap (λ n. Err (record { place = n })) (breaks_once Form bs j.place i.place b a)

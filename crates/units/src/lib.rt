@@ -1,0 +1,6 @@
+// Lines that give the unit prices of a per-bit list.
+#![tactic(auto)]
+
+mod reader;
+
+pub use reader::read_units;
