@@ -1,9 +1,9 @@
 -- Lines of unit prices, as they are read part by part.
-use Rattle.std.proofs.Common.{◌≡◌, ℕ, ◌^◌, ◌<◌, List, [], ◌∷◌, ◌++◌, Ok, Err, Result, decimal, sym, refl, ap, ◌∙◌, append-nil, subst, arith}
+use Rattle.std.proofs.Common.{◌≡◌, ℕ, ◌^◌, ◌<◌, List, [], ◌∷◌, ◌++◌, Ok, Err, Result, decimal, sym, refl, ap, ◌∙◌, append-nil, arith}
 use Rattle.std.proofs.lemmas.List.{append_cancel_left}
 use Rattle.std.proofs.lemmas.Fmt.{decimal_injective}
 use Rattle.forms.specs.declared.error.FormError.{FormError}
-use Rattle.forms.specs.Breaking.{Viable, BrokenAt}
+use Rattle.forms.specs.Breaking.{BrokenAt}
 use Rattle.forms.specs.Keys.{KeyThen}
 use Rattle.forms.specs.Parts.{SpaceBetween}
 use Rattle.forms.proofs.Breaks.{breaks_once, broken_alike}
@@ -11,7 +11,7 @@ use Rattle.forms.proofs.PartLines.{one_seam}
 use Rattle.integers.specs.Naturals.{NineDigits, NaturalForm}
 use Rattle.integers.specs.NaturalScan.{natural_unspaced}
 use Rattle.prices.specs.declared.per_bit.UnitPrices.{UnitPrices}
-use Rattle.units.specs.Form.{key, units_text, UnitsLine, Form, Reading}
+use Rattle.units.specs.Form.{key, UnitsLine, Form, Reading}
 
 -- a line as its parts are read
 abbrev pub PartsLine : UnitPrices → List ℕ → Type 0
@@ -28,9 +28,9 @@ told u bs line =
     record {
       written =
           line.whole ∙ ap (λ l. key ++ l) (
-            first.whole ∙ (λ i. first.before.written i ++ 32 ∷ second.whole i)
-            ∙ ap (λ l. decimal u.adds ++ 32 ∷ l) ((λ i. second.before.written i ++ 32 ∷ third.whole i)
-            ∙ ap (λ l. decimal u.subtracts ++ 32 ∷ l) (λ i. third.before.written i ++ 32 ∷ third.behind.written i))
+          first.whole ∙ (λ i. first.before.written i ++ 32 ∷ second.whole i)
+          ∙ ap (λ l. decimal u.adds ++ 32 ∷ l) ((λ i. second.before.written i ++ 32 ∷ third.whole i)
+          ∙ ap (λ l. decimal u.subtracts ++ 32 ∷ l) (λ i. third.before.written i ++ 32 ∷ third.behind.written i))
           );
       adds = first.before.small;
       subtracts = second.before.small;
@@ -48,7 +48,19 @@ formed bs line =
       told u bs (record {
         rest = line.rest;
         whole = line.whole;
-        holds = record { front = first.front; back = first.back; whole = first.whole; before = first.before.1; behind = record { front = second.front; back = second.back; whole = second.whole; before = second.before.1; behind = record { front = third.front; back = third.back; whole = third.whole; before = third.before.1; behind = third.behind.1 } } };
+        holds = record {
+          front = first.front;
+          back = first.back;
+          whole = first.whole;
+          before = first.before.1;
+          behind = record {
+            front = second.front;
+            back = second.back;
+            whole = second.whole;
+            before = second.before.1;
+            behind = record { front = third.front; back = third.back; whole = third.whole; before = third.before.1; behind = third.behind.1 };
+          };
+        };
       }),
     )
 
