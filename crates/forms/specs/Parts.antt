@@ -1,6 +1,6 @@
 -- Two parts with a space between them, which is the byte 32.
 --   SpaceBetween P Q bs   P holds of what stands before a space in bs, and Q of what stands behind it
---   Reached F R Q bs s    bs lead to s, where R says what leads to the scanner of the first part and Q what leads to that of the second; the first part has the form F by then
+--   Reached F R Q bs s    bs lead to s, where R says what leads to the scanner of the first part, and Q what leads to that of the second. Before the space nothing is read of the second, and behind it the first has its form F
 use Rattle.std.specs.Prelude.{◌≡◌, ℕ, List, [], ◌∷◌, ◌++◌}
 use Rattle.std.proofs.Common.{sym, ap, ◌∙◌, append_assoc}
 use Rattle.forms.specs.Breaking.{Viable}
