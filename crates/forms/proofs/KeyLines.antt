@@ -1,5 +1,5 @@
 -- What does not begin with a key, or does not go on behind it.
-use Rattle.std.proofs.Common.{◌≡◌, ℕ, ◌<◌, ◌≤◌, ◌+◌, List, [], ◌∷◌, ◌++◌, length, get_or, take, Option, Some, None, sym, ap, ◌∙◌, subst, append_assoc, length-append, arith}
+use Rattle.std.proofs.Common.{◌≡◌, ℕ, ◌<◌, ◌≤◌, List, [], ◌∷◌, ◌++◌, length, get_or, Option, Some, None, sym, ap, ◌∙◌, subst, append_assoc, length-append, arith}
 use Rattle.std.proofs.lemmas.List.{append_cancel_left, get_or_append_left, length-take-le}
 use Rattle.std.proofs.Math.Seq.{get_or-append_seam}
 use Rattle.std.specs.Prelude.{MatchOption}
@@ -23,13 +23,18 @@ module _ (key : List ℕ) (F R : List ℕ → Type 0) (place : ℕ) (bs : List �
   pub behind_off : (byte : ℕ) → length key ≤ place → ¬ Viable F (read.rest ++ byte ∷ []) → ¬ Viable (KeyThen key F) (bs ++ byte ∷ [])
   behind_off byte h off (more, is) =
       let joined : key ++ ((read.rest ++ byte ∷ []) ++ more) ≡ key ++ is.rest =
-      sym (ap (λ l. (l ++ byte ∷ []) ++ more) (along_late key R place bs read h) ∙ ap (λ l. l ++ more) (append_assoc key read.rest (byte ∷ [])) ∙ append_assoc key (read.rest ++ byte ∷ []) more) ∙ is.whole in
+      sym (
+      ap (λ l. (l ++ byte ∷ []) ++ more) (along_late key R place bs read h)
+      ∙ ap (λ l. l ++ more) (append_assoc key read.rest (byte ∷ []))
+      ∙ append_assoc key (read.rest ++ byte ∷ []) more
+      ) ∙ is.whole in
       off (more, subst F (sym (append_cancel_left key _ _ joined)) is.holds)
 
   pub short_off : place < length key → ¬ KeyThen key F bs
   short_off h is = let l = ap length is.whole ∙ length-append key is.rest in let m = early_length h in omega arith
 
   -- what is answered where the bytes end, behind a whole key
-  pub ended_behind : {V : Type 0} (Says : List ℕ → V → Type 0) (said : Option V) → length key ≤ place → MatchOption said (¬ F read.rest) (Says read.rest) → MatchOption said (¬ KeyThen key F bs) (λ v. KeyThen key (λ rest. Says rest v) bs)
-  ended_behind Says (Some v) h says = record { rest = read.rest; whole = along_late key R place bs read h; holds = says }
-  ended_behind Says None h off = λ is. off (subst F (append_cancel_left key _ _ (sym is.whole ∙ along_late key R place bs read h)) is.holds)
+  module _ {V : Type 0} (Says : List ℕ → V → Type 0) where
+    pub ended_behind : (said : Option V) → length key ≤ place → MatchOption said (¬ F read.rest) (Says read.rest) → MatchOption said (¬ KeyThen key F bs) (λ v. KeyThen key (λ rest. Says rest v) bs)
+    ended_behind (Some v) h says = record { rest = read.rest; whole = along_late key R place bs read h; holds = says }
+    ended_behind None h off = λ is. off (subst F (append_cancel_left key _ _ (sym is.whole ∙ along_late key R place bs read h)) is.holds)

@@ -1,5 +1,5 @@
 -- What does not go on to two parts with a space between them.
-use Rattle.std.proofs.Common.{◌≡◌, ℕ, ◌⊎◌, inl, inr, List, [], ◌∷◌, ◌++◌, sym, refl, ap, ◌∙◌, subst, ⊎_elim, append_assoc}
+use Rattle.std.proofs.Common.{◌≡◌, ℕ, ◌⊎◌, inl, inr, List, [], ◌∷◌, ◌++◌, sym, refl, ap, ◌∙◌, subst, ⊎_elim, append-nil, append_assoc}
 use Rattle.forms.specs.Breaking.{Viable}
 use Rattle.forms.specs.Parts.{SpaceBetween}
 
@@ -57,12 +57,18 @@ module _ (F : List ℕ → Type 0) (unspaced : (bs : List ℕ) → ¬ Viable F (
     pub first_short : Viable F bs → ¬ SpaceBetween F G bs
     first_short goes is = no_space bs is.front is.back is.whole goes
 
-    module _ (x y : List ℕ) (whole : bs ≡ x ++ 32 ∷ y) (goes : Viable F x) where
+    module _ (x y : List ℕ) (whole : bs ≡ x ++ 32 ∷ y) (before : F x) where
+      itself : Viable F x
+      itself = ([], subst F (sym (append-nil x)) before)
+
       pub second_off : (byte : ℕ) → ¬ Viable G (y ++ byte ∷ []) → ¬ Viable (SpaceBetween F G) (bs ++ byte ∷ [])
       second_off byte off (more, is) =
           let e : is.front ++ 32 ∷ is.back ≡ x ++ 32 ∷ ((y ++ byte ∷ []) ++ more) =
-          joined byte more is ∙ ap (λ l. l ++ byte ∷ more) whole ∙ append_assoc x (32 ∷ y) (byte ∷ more) ∙ ap (λ l. x ++ 32 ∷ l) (sym (append_assoc y (byte ∷ []) more)) in
-          off (more, subst G (one_seam is.front is.back x ((y ++ byte ∷ []) ++ more) is.before goes e).1 is.behind)
+          joined byte more is
+          ∙ ap (λ l. l ++ byte ∷ more) whole
+          ∙ append_assoc x (32 ∷ y) (byte ∷ more)
+          ∙ ap (λ l. x ++ 32 ∷ l) (sym (append_assoc y (byte ∷ []) more)) in
+          off (more, subst G (one_seam is.front is.back x ((y ++ byte ∷ []) ++ more) is.before itself e).1 is.behind)
 
       pub second_short : ¬ G y → ¬ SpaceBetween F G bs
-      second_short off is = off (subst G (one_seam is.front is.back x y is.before goes (sym is.whole ∙ whole)).1 is.behind)
+      second_short off is = off (subst G (one_seam is.front is.back x y is.before itself (sym is.whole ∙ whole)).1 is.behind)

@@ -1,6 +1,6 @@
 // Reads a line that begins with fixed bytes.
 ghost use Rattle.std.specs.Prelude.{◌≡◌, ℕ, List};
-ghost use Rattle.forms.specs.Keys.{KeyThen, Along, along_viable};
+ghost use Rattle.forms.specs.Keys.{KeyThen, Reached, keyed_viable};
 
 use crate::scanner::Scanner;
 use std::marker::PhantomData;
@@ -28,7 +28,7 @@ impl<K: Key, S: Scanner> Scanner for Keyed<K, S> {
 
     ghost Form = { KeyThen K.Key.key S.Scanner.Form };
 
-    ghost Reached = { λ bs keyed. Along K.Key.key (λ rest. S.Scanner.Reached rest keyed.scanner) keyed.place bs };
+    ghost Reached = { Reached K.Key.key S.Scanner.Reached };
 
     fn start() -> Keyed<K, S> {
         Keyed {
@@ -61,5 +61,5 @@ impl<K: Key, S: Scanner> Scanner for Keyed<K, S> {
 
     ghost said = { λ bs said says. record { rest = says.rest; whole = says.whole; holds = S.Scanner.said says.rest said says.holds } };
 
-    ghost viable = { λ bs keyed read. along_viable K.Key.key (λ rest. S.Scanner.Reached rest keyed.scanner) keyed.place bs S.Scanner.Form (λ rest reached. S.Scanner.viable rest keyed.scanner reached) read };
+    ghost viable = { keyed_viable K.Key.key S.Scanner.Form S.Scanner.Reached S.Scanner.viable };
 }

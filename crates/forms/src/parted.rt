@@ -54,5 +54,5 @@ where
 
     ghost said = { λ bs said says. record { front = says.front; back = says.back; whole = says.whole; before = S.Scanner.said says.front said.0 says.before; behind = T.Scanner.said says.back said.1 says.behind } };
 
-    ghost viable = { parted_viable S.Scanner.Form T.Scanner.Form S.Scanner.Reached T.Scanner.Reached (λ x s reached. S.Scanner.viable x s reached) (λ y t reached. T.Scanner.viable y t reached) };
+    ghost viable = { parted_viable S.Scanner.Form T.Scanner.Form S.Scanner.Reached T.Scanner.Reached S.Scanner.viable T.Scanner.viable };
 }

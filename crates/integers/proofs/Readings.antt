@@ -1,11 +1,15 @@
 -- Reading answers one thing.
-use Rattle.std.proofs.Common.{◌≡◌, ℕ, ◌^◌, ◌<◌, List, ℤ, pos, negsuc, Ok, Err, Result, sym, ap, ◌∙◌, arith}
+use Rattle.std.proofs.Common.{◌≡◌, ℕ, ◌^◌, ◌<◌, List, [], ◌∷◌, ◌++◌, ℤ, pos, negsuc, decimal, Ok, Err, Result, sym, refl, ap, ◌∙◌, append-nil, arith}
 use lib.Signed.{mag}
-use Rattle.std.proofs.lemmas.Fmt.{signed_decimal_injective}
+use Rattle.std.proofs.lemmas.Fmt.{decimal_injective, signed_decimal_injective}
 use Rattle.arith.specs.Words.{InWord}
 use Rattle.forms.specs.declared.error.FormError.{FormError}
+use Rattle.forms.specs.Breaking.{Viable}
 use Rattle.forms.proofs.Breaks.{breaks_once}
+use Rattle.forms.proofs.PartLines.{one_seam}
 use Rattle.integers.specs.Form.{Form, Reading}
+use Rattle.integers.specs.Naturals.{NaturalForm}
+use Rattle.integers.specs.NaturalScan.{natural_unspaced}
 use Rattle.integers.proofs.Numbers.{held_above, held_below}
 
 magnitude : (z : ℤ) → InWord z → mag z < 2 ^ 63
@@ -17,3 +21,11 @@ reading_one bs (Ok y) (Ok z) b a = ap Ok (signed_decimal_injective z y (magnitud
 reading_one bs (Ok y) (Err j) b a = absurd (b.broken (y, a))
 reading_one bs (Err i) (Ok z) b a = absurd (a.broken (z, b))
 reading_one bs (Err i) (Err j) b a = ap (λ n. Err (record { place = n })) (breaks_once Form bs j.place i.place b a)
+
+-- a number of at most nine digits that a space ends is read in one way
+pub number_before_space : (m n : ℕ) (x y : List ℕ) → m < 10 ^ 9 → n < 10 ^ 9 → decimal m ++ 32 ∷ x ≡ decimal n ++ 32 ∷ y → (m ≡ n) × (x ≡ y)
+number_before_space m n x y small low e =
+    let first : NaturalForm (decimal m) = (m, record { small = small; written = refl }) in
+    let goes : Viable NaturalForm (decimal n) = ([], (n, record { small = low; written = append-nil (decimal n) })) in
+    let parts = one_seam NaturalForm natural_unspaced (decimal m) x (decimal n) y first goes e in
+    (decimal_injective m n (omega arith) (omega arith) parts.0, parts.1)

@@ -1,17 +1,16 @@
 -- Lines of unit prices, as they are read part by part.
-use Rattle.std.proofs.Common.{◌≡◌, ℕ, ◌^◌, ◌<◌, List, [], ◌∷◌, ◌++◌, Ok, Err, Result, decimal, sym, refl, ap, ◌∙◌, append-nil, subst, arith}
+use Rattle.std.proofs.Common.{◌≡◌, ℕ, List, ◌∷◌, ◌++◌, Ok, Err, Result, decimal, sym, refl, ap, ◌∙◌, arith}
 use Rattle.std.proofs.lemmas.List.{append_cancel_left}
 use Rattle.std.proofs.lemmas.Fmt.{decimal_injective}
 use Rattle.forms.specs.declared.error.FormError.{FormError}
-use Rattle.forms.specs.Breaking.{Viable, BrokenAt}
+use Rattle.forms.specs.Breaking.{BrokenAt}
 use Rattle.forms.specs.Keys.{KeyThen}
 use Rattle.forms.specs.Parts.{SpaceBetween}
 use Rattle.forms.proofs.Breaks.{breaks_once, broken_alike}
-use Rattle.forms.proofs.PartLines.{one_seam}
 use Rattle.integers.specs.Naturals.{NineDigits, NaturalForm}
-use Rattle.integers.specs.NaturalScan.{natural_unspaced}
+use Rattle.integers.proofs.Readings.{number_before_space}
 use Rattle.prices.specs.declared.per_bit.UnitPrices.{UnitPrices}
-use Rattle.units.specs.Form.{key, units_text, UnitsLine, Form, Reading}
+use Rattle.units.specs.Form.{key, UnitsLine, Form, Reading}
 
 -- a line as its parts are read
 abbrev pub PartsLine : UnitPrices → List ℕ → Type 0
@@ -28,9 +27,9 @@ told u bs line =
     record {
       written =
           line.whole ∙ ap (λ l. key ++ l) (
-            first.whole ∙ (λ i. first.before.written i ++ 32 ∷ second.whole i)
-            ∙ ap (λ l. decimal u.adds ++ 32 ∷ l) ((λ i. second.before.written i ++ 32 ∷ third.whole i)
-            ∙ ap (λ l. decimal u.subtracts ++ 32 ∷ l) (λ i. third.before.written i ++ 32 ∷ third.behind.written i))
+          first.whole ∙ (λ i. first.before.written i ++ 32 ∷ second.whole i)
+          ∙ ap (λ l. decimal u.adds ++ 32 ∷ l) ((λ i. second.before.written i ++ 32 ∷ third.whole i)
+          ∙ ap (λ l. decimal u.subtracts ++ 32 ∷ l) (λ i. third.before.written i ++ 32 ∷ third.behind.written i))
           );
       adds = first.before.small;
       subtracts = second.before.small;
@@ -48,7 +47,19 @@ formed bs line =
       told u bs (record {
         rest = line.rest;
         whole = line.whole;
-        holds = record { front = first.front; back = first.back; whole = first.whole; before = first.before.1; behind = record { front = second.front; back = second.back; whole = second.whole; before = second.before.1; behind = record { front = third.front; back = third.back; whole = third.whole; before = third.before.1; behind = third.behind.1 } } };
+        holds = record {
+          front = first.front;
+          back = first.back;
+          whole = first.whole;
+          before = first.before.1;
+          behind = record {
+            front = second.front;
+            back = second.back;
+            whole = second.whole;
+            before = second.before.1;
+            behind = record { front = third.front; back = third.back; whole = third.whole; before = third.before.1; behind = third.behind.1 };
+          };
+        };
       }),
     )
 
@@ -81,16 +92,11 @@ pub broken : (bs : List ℕ) (i : ℕ) → BrokenAt PartsForm bs i → BrokenAt 
 broken = broken_alike PartsForm Form formed parted
 
 -- A line is read in one way.
-number_one : (m n : ℕ) (x y : List ℕ) → m < 10 ^ 9 → n < 10 ^ 9 → decimal m ++ 32 ∷ x ≡ decimal n ++ 32 ∷ y → (m ≡ n) × (x ≡ y)
-number_one m n x y small low e =
-    let parts = one_seam NaturalForm natural_unspaced (decimal m) x (decimal n) y (m, record { small = small; written = refl }) ([], (n, record { small = low; written = append-nil (decimal n) })) e in
-    (decimal_injective m n (omega arith) (omega arith) parts.0, parts.1)
-
 line_one : (u v : UnitPrices) (bs : List ℕ) → UnitsLine u bs → UnitsLine v bs → u ≡ v
 line_one u v bs a b =
-    let first = number_one u.adds v.adds _ _ a.adds b.adds (append_cancel_left key _ _ (sym a.written ∙ b.written)) in
-    let second = number_one u.subtracts v.subtracts _ _ a.subtracts b.subtracts first.1 in
-    let third = number_one u.both v.both _ _ a.both b.both second.1 in
+    let first = number_before_space u.adds v.adds _ _ a.adds b.adds (append_cancel_left key _ _ (sym a.written ∙ b.written)) in
+    let second = number_before_space u.subtracts v.subtracts _ _ a.subtracts b.subtracts first.1 in
+    let third = number_before_space u.both v.both _ _ a.both b.both second.1 in
     let low = a.two_to_one in
     let small = b.two_to_one in
     let fourth = decimal_injective u.two_to_one v.two_to_one (omega arith) (omega arith) third.1 in

@@ -1,7 +1,7 @@
 -- The form of a line of unit prices: `units=` and four numbers with a space between them.
 --   UnitsLine u bs   the bytes bs say the unit prices u
 --   Reading bs r     r is what reading the bytes bs answers: the unit prices, or the byte where they break the form
--- What the prices may be is no part of the form, but that each is below 1,000,000,000.
+-- Each number is below 1,000,000,000. What else prices may be is no part of the form.
 use Rattle.std.specs.Prelude.{◌≡◌, ℕ, ◌^◌, ◌<◌, List, ◌∷◌, ◌++◌, Ok, Err, Result, codes, decimal}
 use Rattle.forms.specs.declared.error.FormError.{FormError}
 use Rattle.forms.specs.Breaking.{BrokenAt}

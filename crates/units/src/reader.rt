@@ -6,7 +6,7 @@ use forms::{FormError, Key, Keyed, Parted};
 use integers::Natural;
 use prices::UnitPrices;
 
-#[derive(Clone, Copy)]
+// The key of a line of unit prices.
 struct UnitsKey;
 
 impl Key for UnitsKey {
@@ -17,15 +17,14 @@ impl Key for UnitsKey {
     }
 }
 
-type FourNumbers = Parted<Natural, Parted<Natural, Parted<Natural, Natural>>>;
+type Units = Keyed<UnitsKey, Parted<Natural, Parted<Natural, Parted<Natural, Natural>>>>;
 
 // The unit prices that a line says, or the first byte after which no such line can follow, the length where it stops short.
 pub fn read_units(line: &[u8]) -> Result<UnitPrices, FormError>
     ensures answer { Reading line.now result }
     ensures only { Only (Reading line.now) result }
 {
-    let (adds, (subtracts, (both, two_to_one))) =
-        forms::read::<Keyed<UnitsKey, FourNumbers>>(line)?;
+    let (adds, (subtracts, (both, two_to_one))) = forms::read::<Units>(line)?;
     Ok(UnitPrices {
         adds,
         subtracts,

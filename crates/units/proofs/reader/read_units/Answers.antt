@@ -1,6 +1,4 @@
-use Rattle.std.proofs.Common.{◌≡◌, Ok, Err, rules}
 use Rattle.std.proofs.lemmas.Result.{err_from_is_err_and}
-use Rattle.units.specs.Form.{Reading}
 use Rattle.units.proofs.Lines.{told, broken, reading_one}
 use Rattle.units.proofs.reader.read_units.Goals as goal
 

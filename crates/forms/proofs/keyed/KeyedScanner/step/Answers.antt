@@ -1,4 +1,4 @@
-use Rattle.std.proofs.Common.{◌≡◌, ◌<◌, ◌≤◌, length, get_or, rules, arith}
+use Rattle.std.proofs.Common.{◌≡◌, ◌<◌, ◌≤◌, length, get_or, rules}
 use Rattle.forms.proofs.keyed.KeyedScanner.step.Goals as goal
 use Rattle.forms.proofs.KeyLines.{key_off, behind_off}
 

@@ -7,7 +7,8 @@ pub returns-in_err-end-in-Second-2 : goal.returns-in_err-end-in-Second-2
 returns-in_err-end-in-Second-2 g c bs reached =
     let s = g.S.Scanner in
     let parts = subst (Reached s.Form s.Reached g.T.Scanner.Reached bs) c.in-Second.is reached in
-    rw c.from_residual-in_err-end-in-Second-2.ensures (second_short s.Form g.met.S.Word.unspaced g.T.Scanner.Form bs parts.front parts.back parts.whole (g.met.S.Scanner.viable parts.front c.in-Second.first parts.before.1) (c.in_err-end-in-Second-2.ensures parts.back parts.behind))
+    let off = c.in_err-end-in-Second-2.ensures parts.back parts.behind in
+    rw c.from_residual-in_err-end-in-Second-2.ensures (second_short s.Form g.met.S.Word.unspaced g.T.Scanner.Form bs parts.front parts.back parts.whole parts.before.0 off)
 
 pub returns-in-First : goal.returns-in-First
 returns-in-First g c bs reached =

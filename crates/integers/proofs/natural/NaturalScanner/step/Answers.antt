@@ -1,4 +1,4 @@
-use Rattle.std.proofs.Common.{◌≡◌, ◌≤◌, ◌^◌, None, Some, rules, subst, arith}
+use Rattle.std.proofs.Common.{◌≡◌, ◌≤◌, ◌^◌, None, Some, rules, subst}
 use Rattle.forms.specs.Digits.{digit}
 use Rattle.integers.specs.declared.natural.Natural.TheVariants.{Number}
 use Rattle.integers.specs.NaturalScan.{NaturalReached}
