@@ -8,8 +8,8 @@ use Rattle.blocks.specs.declared.model.Block.{Block}
 use Rattle.ports.specs.declared.port.Port.{Port}
 use Rattle.ports.specs.declared.port.Port.TheVariants.{Left, Right, Output}
 use Rattle.ports.specs.Inputs.{inputs}
-use Rattle.prices.specs.declared.parts.AdderKind.{AdderKind}
-use Rattle.prices.specs.declared.parts.AdderKind.TheVariants.{Adds, Subtracts, Both}
+use Rattle.prices.specs.declared.adder.AdderKind.{AdderKind}
+use Rattle.prices.specs.declared.adder.AdderKind.TheVariants.{Adds, Subtracts, Both}
 use Rattle.pricing.specs.declared.net.Net.TheVariants.{OfAdder, OfPort}
 use Rattle.pricing.specs.Nets.{width_of}
 use Rattle.pricing.specs.Parts.{kind_at}

@@ -2,8 +2,8 @@
 use Rattle.std.specs.Prelude.{ℕ, ◌+◌, ◌-◌, ◌*◌, ◌/◌, ◌≤◌}
 use Rattle.std.proofs.Common.{arith}
 use Rattle.std.proofs.Math.Nat.{mul-le-mul, mul-zero, zero-mul}
-use Rattle.prices.specs.declared.parts.AdderKind.{AdderKind}
-use Rattle.prices.specs.declared.parts.AdderKind.TheVariants.{Adds, Subtracts, Both}
+use Rattle.prices.specs.declared.adder.AdderKind.{AdderKind}
+use Rattle.prices.specs.declared.adder.AdderKind.TheVariants.{Adds, Subtracts, Both}
 use Rattle.prices.specs.Tables.{AdderTable, MuxTable, LawfulAdders, LawfulMuxes}
 
 -- the smallest step that is wide enough

@@ -4,8 +4,8 @@ use Rattle.std.proofs.Common.{arith}
 use Rattle.std.proofs.Math.Nat.{mul-le-mul, mul-zero, zero-mul}
 use Rattle.adders.specs.declared.refusals.Refusal.TheVariants.{UnitTooHigh, BothTooCheap}
 use Rattle.adders.specs.Rules.{Rule, rule}
-use Rattle.prices.specs.declared.parts.AdderKind.{AdderKind}
-use Rattle.prices.specs.declared.parts.AdderKind.TheVariants.{Adds, Subtracts, Both}
+use Rattle.prices.specs.declared.adder.AdderKind.{AdderKind}
+use Rattle.prices.specs.declared.adder.AdderKind.TheVariants.{Adds, Subtracts, Both}
 use Rattle.prices.specs.declared.per_bit.UnitPrices.{UnitPrices}
 use Rattle.prices.specs.declared.per_bit.PerBitList.{PerBitList}
 use Rattle.prices.specs.Tables.{AdderTable, MuxTable, LawfulAdders, LawfulMuxes}

@@ -2,8 +2,8 @@
 --   w        a width, from 1 to 63 bits
 --   m and n  input counts, from 1 to 16
 use Rattle.std.specs.Prelude.{◌≡◌, ℕ, ◌≤◌}
-use Rattle.prices.specs.declared.parts.AdderKind.{AdderKind}
-use Rattle.prices.specs.declared.parts.AdderKind.TheVariants.{Both}
+use Rattle.prices.specs.declared.adder.AdderKind.{AdderKind}
+use Rattle.prices.specs.declared.adder.AdderKind.TheVariants.{Both}
 
 -- the price of an adder of a kind at a width
 abbrev pub AdderTable : Type 0

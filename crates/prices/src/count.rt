@@ -1,8 +1,9 @@
 // The count list: a block costs as many two-way multiplexers as it needs.
 ghost use Rattle.prices.specs.Count.{count_adders, count_muxes, count_adders_lawful, count_muxes_lawful};
 
+use crate::adder::AdderPart;
 use crate::list::PriceList;
-use crate::parts::{AdderPart, Multiplexer};
+use crate::multiplexer::Multiplexer;
 
 // Adders cost nothing, and a multiplexer one less than it has inputs.
 #[derive(Clone, Copy, Debug, PartialEq, Eq)]

@@ -2,8 +2,9 @@
 ghost use Rattle.prices.specs.Tables.{LawfulAdders, LawfulMuxes};
 ghost use Rattle.prices.specs.Either.{either_table, either_lawful};
 
+use crate::adder::AdderPart;
 use crate::list::PriceList;
-use crate::parts::{AdderPart, Multiplexer};
+use crate::multiplexer::Multiplexer;
 
 // One of two lists of different types, so that one place may be handed either.
 #[derive(Clone, Copy)]

@@ -2,7 +2,8 @@
 ghost use Rattle.std.specs.Prelude.{◌≡◌, ℕ};
 ghost use Rattle.prices.specs.Tables.{AdderTable, MuxTable, LawfulAdders, LawfulMuxes};
 
-use crate::parts::{AdderPart, Multiplexer};
+use crate::adder::AdderPart;
+use crate::multiplexer::Multiplexer;
 
 // A list of prices. It means two tables, and whatever is asked is answered from them.
 pub trait PriceList {

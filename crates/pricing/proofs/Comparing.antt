@@ -15,8 +15,8 @@ use Rattle.ports.specs.Ports.{put_at}
 use Rattle.ports.specs.Inputs.{inputs}
 use Rattle.ports.proofs.Ascending.{inputs_law, ascending_fewer}
 use Rattle.bits.proofs.Least.{bits_more, bits_few}
-use Rattle.prices.specs.declared.parts.AdderKind.{AdderKind}
-use Rattle.prices.specs.declared.parts.AdderKind.TheVariants.{Adds, Subtracts}
+use Rattle.prices.specs.declared.adder.AdderKind.{AdderKind}
+use Rattle.prices.specs.declared.adder.AdderKind.TheVariants.{Adds, Subtracts}
 use Rattle.prices.specs.Tables.{AdderTable, MuxTable, LawfulAdders, LawfulMuxes, Tables, Lawful}
 use Rattle.pricing.specs.declared.net.Net.{Net}
 use Rattle.pricing.specs.declared.net.Net.TheVariants.{OfAdder, OfPort}

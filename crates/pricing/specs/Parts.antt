@@ -13,10 +13,10 @@ use Rattle.rows.specs.Rows.{adder_at}
 use Rattle.blocks.specs.declared.model.Block.{Block}
 use Rattle.ports.specs.declared.port.Port.{Port}
 use Rattle.ports.specs.Inputs.{inputs}
-use Rattle.prices.specs.declared.parts.AdderKind.{AdderKind}
-use Rattle.prices.specs.declared.parts.AdderKind.TheVariants.{Adds, Subtracts, Both}
-use Rattle.prices.specs.declared.parts.AdderPart.{AdderPart}
-use Rattle.prices.specs.declared.parts.Multiplexer.{Multiplexer}
+use Rattle.prices.specs.declared.adder.AdderKind.{AdderKind}
+use Rattle.prices.specs.declared.adder.AdderKind.TheVariants.{Adds, Subtracts, Both}
+use Rattle.prices.specs.declared.adder.AdderPart.{AdderPart}
+use Rattle.prices.specs.declared.multiplexer.Multiplexer.{Multiplexer}
 use Rattle.pricing.specs.declared.net.Net.TheVariants.{OfAdder, OfPort}
 use Rattle.pricing.specs.Nets.{width_of}
 

@@ -4,8 +4,9 @@ ghost use Rattle.adders.specs.Rules.{Answered};
 ghost use Rattle.prices.specs.PerBit.{per_bit_adders, per_bit_muxes, per_bit_adders_lawful, per_bit_muxes_lawful, unit_rules, WithinBounds};
 
 use super::{PerBitList, UnitPrices};
+use crate::adder::{AdderKind, AdderPart};
 use crate::list::PriceList;
-use crate::parts::{AdderKind, AdderPart, Multiplexer};
+use crate::multiplexer::Multiplexer;
 use adders::Refusal;
 
 const MOST_UNIT: u32 = 1000;
