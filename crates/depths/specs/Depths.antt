@@ -14,7 +14,7 @@ abbrev pub deepest : (ℕ → ℕ) → List Operand → ℕ
 deepest d [] = 0
 deepest d (o ∷ os) = max (d o.source) (deepest d os)
 
--- of a port with these inputs: the levels of its multiplexer, which halves them at each, behind the deepest source
+-- of a port with these inputs: the levels of its multiplexer, each of which halves what is left to choose from, behind the deepest source
 abbrev pub inputs_depth : (ℕ → ℕ) → List Operand → ℕ
 inputs_depth d [] = 0
 inputs_depth d (o ∷ os) = bits (length (o ∷ os)) + deepest d (o ∷ os)

@@ -20,13 +20,14 @@ use Rattle.pricing.specs.Prices.{block_price}
 use Rattle.price.specs.declared.report.Bill.{Bill}
 use Rattle.price.specs.Parts.{parts_text}
 
-abbrev pub Free : List ℕ → Type 0
-Free [] = Unit {0}
-Free (b ∷ bs) = (b ≡ 10 → ⊥) × Free bs
+-- no byte is a line feed, which is the byte 10
+abbrev pub NoLineFeed : List ℕ → Type 0
+NoLineFeed [] = Unit {0}
+NoLineFeed (b ∷ bs) = (b ≡ 10 → ⊥) × NoLineFeed bs
 
--- up to the first line feed, which is the byte 10, or all where there is none
+-- up to the first line feed, or all where there is none
 pub record FirstLine (input line sheet : List ℕ) : Type 0 where
-  pub free : Free line
+  pub one_line : NoLineFeed line
   pub whole : (input ≡ line ++ 10 ∷ sheet) ⊎ ((input ≡ line) × (sheet ≡ []))
 
 -- the unit prices of a line break its form, or are none of a list
