@@ -1,0 +1,2 @@
+mod Exploring
+pub mod Meaning
