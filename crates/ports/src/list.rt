@@ -75,6 +75,21 @@ impl InputList {
         &self.places[..self.len]
     }
 
+    // How many inputs it would have with this one, which counts where it does not stand there already.
+    pub fn len_with(&self, input: Operand) -> usize
+        ensures { result ≡ length (insert input self.now) }
+    {
+        for next in self.as_slice() {
+            if precedes(input, *next) {
+                return self.len() + 1;
+            }
+            if !precedes(*next, input) {
+                return self.len();
+            }
+        }
+        self.len() + 1
+    }
+
     // The list with an input at its place in the order, unless it stands there already.
     pub(crate) fn with(&self, input: Operand) -> InputList
         requires { length self.now < 16 }

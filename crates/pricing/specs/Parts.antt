@@ -17,6 +17,7 @@ use Rattle.prices.specs.declared.adder.AdderKind.{AdderKind}
 use Rattle.prices.specs.declared.adder.AdderKind.TheVariants.{Adds, Subtracts, Both}
 use Rattle.prices.specs.declared.adder.AdderPart.{AdderPart}
 use Rattle.prices.specs.declared.multiplexer.Multiplexer.{Multiplexer}
+use Rattle.pricing.specs.declared.parts.SignsMet.{SignsMet}
 use Rattle.pricing.specs.declared.net.Net.TheVariants.{OfAdder, OfPort}
 use Rattle.pricing.specs.Nets.{width_of}
 
@@ -42,6 +43,14 @@ is_sign s o = false
 -- some live row uses the adder by this sign
 abbrev pub met : Sign → Block → ℕ → Bool
 met s b j = list_any (is_sign s) (map (λ r. sign_used r j) b.table.rows)
+
+-- by which signs live rows use the adder
+abbrev pub signs_at : Block → ℕ → SignsMet
+signs_at b j = record { adds = met Plus b j; subtracts = met Minus b j }
+
+abbrev pub with_sign : Sign → SignsMet → SignsMet
+with_sign Plus m = record { adds = true; subtracts = m.subtracts }
+with_sign Minus m = record { adds = m.adds; subtracts = true }
 
 -- the kind of an adder that is met by plus, and by minus
 abbrev pub kind_of : Bool → Bool → Option AdderKind

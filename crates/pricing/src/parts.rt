@@ -1,7 +1,7 @@
 // Which adder stands at each number of a block, and which multiplexer at each port.
 ghost use Rattle.std.specs.Prelude.{◌≡◌};
 ghost use Rattle.blocks.specs.Blocks.{row_of};
-ghost use Rattle.pricing.specs.Parts.{MuxAt, sign_used, kind_at, AdderAt};
+ghost use Rattle.pricing.specs.Parts.{MuxAt, sign_used, kind_of, signs_at, with_sign, AdderAt};
 
 use crate::net::Net;
 use adders::Sign;
@@ -23,24 +23,56 @@ fn sign_used(block: &Block, adder: usize, code: usize) -> Option<Sign>
     Some(block.row(code).ok()?.adder(adder)?.sign)
 }
 
-// By the signs that live rows have there.
-#[tactic(auto, using(crate::proofs::Columns::no_sign_yet, crate::proofs::Columns::sign_more))]
-fn kind_at(block: &Block, adder: usize) -> Option<AdderKind>
-    ensures { result ≡ kind_at block.now adder }
-{
-    let (mut adds, mut subtracts) = (false, false);
-    for code in (0..16).rev() {
-        match sign_used(block, adder, code) {
-            Some(Sign::Plus) => adds = true,
-            Some(Sign::Minus) => subtracts = true,
-            None => {}
+// By which signs live rows use an adder.
+#[derive(Clone, Copy)]
+pub struct SignsMet {
+    pub adds: bool,
+    pub subtracts: bool,
+}
+
+impl SignsMet {
+    #[tactic(auto, using(crate::proofs::Columns::no_sign_yet, crate::proofs::Columns::sign_more))]
+    // Those of all live rows.
+    pub fn at(block: &Block, adder: usize) -> SignsMet
+        ensures { result ≡ signs_at block.now adder }
+    {
+        let (mut adds, mut subtracts) = (false, false);
+        for code in (0..16).rev() {
+            match sign_used(block, adder, code) {
+                Some(Sign::Plus) => adds = true,
+                Some(Sign::Minus) => subtracts = true,
+                None => {}
+            }
+        }
+        SignsMet { adds, subtracts }
+    }
+
+    // With one sign more.
+    pub fn with(self, sign: Sign) -> SignsMet
+        ensures { result ≡ with_sign sign self }
+    {
+        match sign {
+            Sign::Plus => SignsMet {
+                adds: true,
+                subtracts: self.subtracts,
+            },
+            Sign::Minus => SignsMet {
+                adds: self.adds,
+                subtracts: true,
+            },
         }
     }
-    match (adds, subtracts) {
-        (true, true) => Some(AdderKind::Both),
-        (true, false) => Some(AdderKind::Adds),
-        (false, true) => Some(AdderKind::Subtracts),
-        (false, false) => None,
+
+    // The kind of an adder that is met by these.
+    pub fn kind(self) -> Option<AdderKind>
+        ensures { result ≡ kind_of self.adds self.subtracts }
+    {
+        match (self.adds, self.subtracts) {
+            (true, true) => Some(AdderKind::Both),
+            (true, false) => Some(AdderKind::Adds),
+            (false, true) => Some(AdderKind::Subtracts),
+            (false, false) => None,
+        }
     }
 }
 
@@ -48,5 +80,5 @@ fn kind_at(block: &Block, adder: usize) -> Option<AdderKind>
 pub fn adder_at(block: &Block, adder: usize) -> Option<AdderPart>
     ensures { AdderAt block.now adder result }
 {
-    AdderPart::new(kind_at(block, adder)?, Net::OfAdder(adder).width(block))
+    AdderPart::new(SignsMet::at(block, adder).kind()?, Net::OfAdder(adder).width(block))
 }

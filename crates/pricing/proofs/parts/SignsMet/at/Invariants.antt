@@ -2,7 +2,7 @@ use Rattle.std.proofs.Common.{◌≡◌, drop, map}
 use Rattle.std.specs.List.{list_any}
 use Rattle.adders.specs.declared.wiring.Sign.TheVariants.{Plus, Minus}
 use Rattle.pricing.specs.Parts.{sign_used, is_sign}
-use Rattle.pricing.proofs.parts.kind_at.Given as goal
+use Rattle.pricing.proofs.parts.SignsMet.at.Given as goal
 
 abbrev pub invariant-loop-code : goal.invariant-loop-code
 invariant-loop-code l =

@@ -1,7 +1,7 @@
 use Rattle.std.proofs.Common.{Some, None, sym, ap, ◌∙◌}
 use Rattle.adders.specs.declared.wiring.Sign.TheVariants.{Plus, Minus}
 use Rattle.pricing.proofs.Columns.{sign_more}
-use Rattle.pricing.proofs.parts.kind_at.Goals as goal
+use Rattle.pricing.proofs.parts.SignsMet.at.Goals as goal
 
 pub loop-code-preserved-in-Some-Plus : goal.loop-code-preserved-in-Some-Plus
 loop-code-preserved-in-Some-Plus c =
