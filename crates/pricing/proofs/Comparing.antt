@@ -114,10 +114,15 @@ module _ (a b : Block) (some : SomeRowsOf a b) where
       kind_more price law (width_of b n) (width_some b n) (width_few b n) (met Plus a j) (met Minus a j) (met Plus b j) (met Minus b j) (more_signs a b some Plus j) (more_signs a b some Minus j) in
       omega arith
 
+  pub part_grows : (t : Tables) → Lawful t → (j : ℕ) → adder_with_ports t a j ≤ adder_with_ports t b j
+  part_grows t law j =
+      let x = adders_grow t.adders law.adders j in
+      let y = ports_grow t.muxes law.muxes (Left j) in
+      let z = ports_grow t.muxes law.muxes (Right j) in omega arith
+
   pub never_cheapen : NeverDearer a b
   never_cheapen t law =
-      let each : (j : ℕ) → adder_with_ports t a j ≤ adder_with_ports t b j = λ j. let x = adders_grow t.adders law.adders j in let y = ports_grow t.muxes law.muxes (Left j) in let z = ports_grow t.muxes law.muxes (Right j) in omega arith in
-      let sum = total_grows (adder_with_ports t a) (adder_with_ports t b) a.adders each in
+      let sum = total_grows (adder_with_ports t a) (adder_with_ports t b) a.adders (part_grows t law) in
       let out = ports_grow t.muxes law.muxes Output in
       let same : total (adder_with_ports t b) a.adders ≡ total (adder_with_ports t b) b.adders = ap (total (adder_with_ports t b)) some.adders in
       omega arith
