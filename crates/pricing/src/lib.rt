@@ -12,6 +12,7 @@ pub use laws::{
     rows_never_make_a_block_cheaper,
 };
 pub use net::Net;
+pub use net::widths::operand_value;
 pub use parts::{SignsMet, adder_at, multiplexer_at};
 pub use saving::retire;
 pub use sums::{adder_with_ports, port_price, price};

@@ -1,5 +1,5 @@
 -- What a row puts at an adder and at a port, with the values.
-use Rattle.std.specs.Prelude.{ℕ, ◌*◌, ◌^◌, Bool, true, false}
+use Rattle.std.specs.Prelude.{ℕ, ◌*◌, ◌^◌, Bool, true, false, Some, None, Option}
 use Rattle.adders.specs.declared.wiring.Adder.{Adder}
 use Rattle.adders.specs.declared.wiring.Operand.{Operand}
 use Rattle.adders.specs.declared.wiring.Sign.{Sign}
@@ -15,6 +15,14 @@ valued_operand r o = record { operand = o; value = value r.slots o.source * 2 ^ 
 
 abbrev pub valued_adder : Row → ℕ → Adder → ValuedAdder
 valued_adder r j a = record { left = valued_operand r a.left; sign = a.sign; right = valued_operand r a.right; value = value r.slots j }
+
+abbrev pub operand_used : Row → Option Operand → Option ValuedOperand
+operand_used r None = None
+operand_used r (Some o) = Some (valued_operand r o)
+
+abbrev pub adder_used : Row → ℕ → Option Adder → Option ValuedAdder
+adder_used r j None = None
+adder_used r j (Some a) = Some (valued_adder r j a)
 
 -- with its operands exchanged, if so said
 abbrev pub turned : Bool → ValuedAdder → ValuedAdder

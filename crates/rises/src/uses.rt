@@ -1,5 +1,7 @@
-// What a row puts at an adder and at a port, with what it makes of a sample of 1 there.
+// What a row puts at an adder and at a port, with what it makes of a sample of 1 there. The calls stand in a module below, since they cite definitions that name these.
 use adders::{Operand, Sign};
+
+pub mod calls;
 
 #[derive(Clone, Copy)]
 pub struct ValuedOperand {

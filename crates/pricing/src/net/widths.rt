@@ -13,7 +13,7 @@ use rows::Row;
 
 // The value of the operand that a row puts at a port.
 #[tactic(auto, using(crate::proofs::Operands::put_low, crate::proofs::Operands::put_shift, crate::proofs::Operands::put_value, crate::proofs::Operands::put_range))]
-fn operand_value(row: &Row, port: Port) -> Option<u32>
+pub fn operand_value(row: &Row, port: Port) -> Option<u32>
     ensures value { result ≡ operand_value row.now (operand_at row.now port) }
     ensures range { IfSome result InRange }
 {

@@ -1,7 +1,6 @@
 // What one row more would cost at a part.
-ghost use Rattle.std.specs.Prelude.{◌≡◌, ◌≤◌, true};
+ghost use Rattle.std.specs.Prelude.{◌≡◌, ◌≤◌};
 ghost use Rattle.prices.specs.Tables.{tables};
-ghost use Rattle.rises.specs.Uses.{turned, is_plus};
 ghost use Rattle.rises.specs.Rises.{port_of, adder_of, mux_with, kind_with, port_with, adder_with, way_of};
 
 use super::{HeldAdder, HeldPort, Way};
@@ -52,20 +51,6 @@ impl HeldPort {
         let inputs = self.inputs.len_with(used.operand);
         let width = u32::from(sample) + bits(used.value.max(self.largest));
         multiplexer_price(inputs, width, list)
-    }
-}
-
-impl ValuedAdder {
-    // With its operands exchanged.
-    pub fn turned(self) -> ValuedAdder
-        ensures { result ≡ turned true self }
-    {
-        ValuedAdder {
-            left: self.right,
-            sign: self.sign,
-            right: self.left,
-            value: self.value,
-        }
     }
 }
 

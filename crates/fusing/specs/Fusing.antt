@@ -1,0 +1,53 @@
+-- Fusing a chain at an idle code: the cheapest placement, and of several that cost as little the first.
+--   t        the two tables of a price list
+--   before   the block before, after the block after
+--   p, q     placements of the chain
+use Rattle.std.specs.Prelude.{◌≡◌, ℕ, ◌<◌, ◌≤◌, Bool, true, false, not, ◌⊎◌, List, [], ◌∷◌, ◌++◌, length, is_some, Option, Result, nat_le}
+use Rattle.adders.specs.declared.refusals.Refusal.{Refusal}
+use Rattle.adders.specs.declared.refusals.Refusal.TheVariants.{CodeLive, BlockTooSmall}
+use Rattle.adders.specs.Rules.{Rule, rule, Changed}
+use Rattle.chains.specs.declared.model.Chain.{Chain}
+use Rattle.chains.specs.Chains.{chain_adders}
+use Rattle.rows.specs.declared.model.Row.{Row}
+use Rattle.tables.specs.Tables.{code_rules}
+use Rattle.blocks.specs.declared.model.Block.{Block}
+use Rattle.blocks.specs.Blocks.{row_of}
+use Rattle.prices.specs.Tables.{Tables}
+use Rattle.pricing.specs.Prices.{block_price}
+use Rattle.search.specs.Choosing.{Lower}
+use Rattle.placing.specs.Placements.{Placement, Admissible, Placed}
+
+-- unswapped at the first difference, read from chain adder 1
+abbrev pub Unswapped : List Bool → List Bool → Type 0
+Unswapped [] ss = ⊥
+Unswapped (r ∷ rs) [] = ⊥
+Unswapped (r ∷ rs) (s ∷ ss) = ((r ≡ false) × (s ≡ true)) ⊎ ((r ≡ s) × Unswapped rs ss)
+
+-- q comes before p: its list of places is the lower one, or they are the same and it is unswapped at the first difference
+abbrev pub Before : Placement → Placement → Type 0
+Before q p = Lower q.places p.places ⊎ ((q.places ≡ p.places) × Unswapped q.swaps p.swaps)
+
+-- Of all admissible placements none would have left a block that costs less, and none that comes before this one a block that costs as little.
+pub record Chosen (t : Tables) (before : Block) (code : ℕ) (chain : Chain) (p : Placement) (after : Block) : Type 0 where
+  pub admissible : Admissible before.adders chain p
+  pub placed : Placed before code chain p after
+  pub least : (q : Placement) (other : Block) → Admissible before.adders chain q → Placed before code chain q other → block_price t after ≤ block_price t other
+  pub first : (q : Placement) (other : Block) → Admissible before.adders chain q → Placed before code chain q other → Before q p → block_price t after < block_price t other
+
+-- what fusing leaves and answers: the block's new price
+pub record Fused (t : Tables) (before : Block) (code : ℕ) (chain : Chain) (price : ℕ) (after : Block) : Type 0 where
+  pub placement : Placement
+  pub chosen : Chosen t before code chain placement after
+  pub priced : price ≡ block_price t after
+
+-- a code of the sixteen, then an idle one, then a chain with no more adders than the block
+abbrev pub fusing_rules : Option Row → ℕ → Chain → ℕ → List Rule
+fusing_rules row count chain code = code_rules code ++ rule (not (is_some row)) CodeLive ∷ rule (nat_le (length (chain_adders chain)) count) BlockTooSmall ∷ []
+
+-- What the rules say of one fusing, its answer and the block after it.
+abbrev pub Fusing : Tables → Chain → ℕ → Block → Result ℕ Refusal → Block → Type 0
+Fusing t chain code before r after = Changed (fusing_rules (row_of before code) before.adders chain code) before (λ price b. Fused t before code chain price b) r after
+
+-- the placement, the answer and the block are determined
+abbrev pub FusingIsDetermined : Type 0
+FusingIsDetermined = (t : Tables) (before : Block) (code : ℕ) (chain : Chain) (m n : ℕ) (a b : Block) → (f : Fused t before code chain m a) → (g : Fused t before code chain n b) → (f.placement ≡ g.placement) × (m ≡ n) × (a ≡ b)
