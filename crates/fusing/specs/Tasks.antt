@@ -2,16 +2,24 @@
 --   uses     how the chain uses adder d + 1, with its sources as they stand in the chain
 --   held     what the live rows have at each adder of the block, adder 1 first
 --   before   where the chain's adders stand that are placed already
-use Rattle.std.specs.Prelude.{◌≡◌, ℕ, ◌+◌, ◌-◌, Bool, true, false, ◌&&◌, not, List, [], ◌∷◌, length, Some, None, Option, nat_lt, ◌==◌, slice_get}
+use Rattle.std.specs.Prelude.{◌≡◌, ℕ, ◌+◌, ◌-◌, ◌<◌, Bool, true, false, ◌&&◌, not, List, [], ◌∷◌, length, Some, None, Option, nat_lt, ◌==◌, slice_get, slice_index_or}
 use Rattle.std.specs.List.{list_any}
 use Rattle.adders.specs.declared.wiring.Operand.{Operand}
+use Rattle.chains.specs.declared.model.Chain.{Chain}
+use Rattle.chains.specs.Chains.{chain_adders}
+use Rattle.rows.specs.declared.model.Row.{Row}
+use Rattle.rows.specs.Rows.{adder_at, RowOf}
+use Rattle.blocks.specs.declared.model.Block.{Block}
+use Rattle.ports.specs.declared.port.Port.TheVariants.{Output}
 use Rattle.prices.specs.Tables.{Tables}
 use Rattle.rises.specs.declared.held.HeldAdder.{HeldAdder}
 use Rattle.rises.specs.declared.held.HeldPort.{HeldPort}
 use Rattle.rises.specs.declared.held.Way.{Way}
 use Rattle.rises.specs.declared.uses.ValuedAdder.{ValuedAdder}
 use Rattle.rises.specs.declared.uses.ValuedOperand.{ValuedOperand}
-use Rattle.rises.specs.Rises.{way_of, port_with}
+use Rattle.rises.specs.Rises.{adder_of, port_of, way_of, port_with}
+use Rattle.rises.specs.Uses.{valued_operand, adder_used}
+use Rattle.fusing.specs.declared.task.Task.{Task}
 use Rattle.placing.specs.Placements.{Placement, placed_source, placed_operand}
 
 abbrev pub at : List ℕ → Placement
@@ -46,3 +54,23 @@ rise_of (Some way) = way.rise
 abbrev pub swap_of : Option Way → Bool
 swap_of None = false
 swap_of (Some way) = way.swapped
+
+-- how the row of the chain uses its adders, and what it puts at the output
+abbrev pub UsesOf : Row → List (Option ValuedAdder) → Type 0
+UsesOf r uses = (d : ℕ) → d < 8 → slice_index_or uses d None ≡ adder_used r (d + 1) (adder_at r (d + 1))
+
+-- what the live rows have at the adders of the block
+abbrev pub HeldOf : Tables → Block → List HeldAdder → Type 0
+HeldOf t b held = (k : ℕ) → k < 8 → slice_get held k ≡ Some (adder_of t b (k + 1))
+
+-- what a search is given of a block and a chain
+pub record TaskOf {L : Type 0} (t : Tables) (b : Block) (chain : Chain) (task : Task L) : Type 0 where
+  pub sample : task.sample ≡ b.width
+  pub count : task.count ≡ b.adders
+  pub length_is : task.length ≡ length (chain_adders chain)
+  pub row : Row
+  pub of_chain : RowOf chain row
+  pub uses : UsesOf row task.uses
+  pub output : task.output ≡ valued_operand row row.output
+  pub held : HeldOf t b task.held
+  pub held_output : task.held_output ≡ port_of b Output

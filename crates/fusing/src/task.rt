@@ -4,6 +4,7 @@ ghost use Rattle.std.specs.Prelude.{◌≡◌, ℕ, ◌≤◌};
 use prices::PriceList;
 use rises::{HeldAdder, HeldPort, ValuedAdder, ValuedOperand};
 
+pub mod making;
 pub mod steps;
 
 // A chain and a block, each by what pricing asks of it, and the list of prices.

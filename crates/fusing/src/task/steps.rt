@@ -57,14 +57,56 @@ fn stands_above(before: &[u8], used: Option<ValuedAdder>, place: u8) -> bool
         && place_of(before, adder.right.operand.source) < place
 }
 
-// Whether an adder stands there already.
-fn is_taken(before: &[u8], place: u8) -> bool
-    ensures { result ≡ list_any (λ q. q == place) before.now }
-{
-    for taken in before {
-        if *taken == place {
-            return true;
-        }
+impl<L: PriceList> Task<'_, L> {
+    // How the chain uses the next adder.
+    fn next_use(&self, before: &[u8]) -> Option<ValuedAdder>
+        ensures { result ≡ slice_index_or self.now.uses (length before.now) None }
+    {
+        self.uses.get(before.len()).copied().flatten()
     }
-    false
+
+    // The cheaper way round for the next adder at a place.
+    pub fn way(&self, before: &[u8], place: u8) -> Option<Way>
+        ensures way { result ≡ way_at (tables (L.PriceList.adders self.now.list.now) (L.PriceList.muxes self.now.list.now)) self.now.sample before.now (slice_get self.now.held (place - 1)) (slice_index_or self.now.uses (length before.now) None) }
+        ensures most { rise_of result ≤ 3000000 }
+    {
+        let held = self.held.get((place as usize).saturating_sub(1))?;
+        let used = self.next_use(before)?;
+        Some(held.way(self.sample, moved_adder(before, used), self.list))
+    }
+}
+
+impl<L: PriceList> Steps for Task<'_, L> {
+    ghost length = { λ task. task.length };
+
+    ghost count = { λ task. task.count };
+
+    ghost opens = { λ task before p. opens_at (λ d. slice_index_or task.uses d None) before p };
+
+    ghost rise = { λ task before p. rise_of (way_at (tables (L.PriceList.adders task.list.now) (L.PriceList.muxes task.list.now)) task.sample before (slice_get task.held (p - 1)) (slice_index_or task.uses (length before) None)) };
+
+    ghost last = { λ task all. port_with (L.PriceList.muxes task.list.now) task.sample task.held_output (moved all task.output) };
+
+    ghost few = { λ task. task.few };
+
+    fn length(&self) -> usize {
+        self.length
+    }
+
+    fn count(&self) -> u8 {
+        self.count
+    }
+
+    fn opens(&self, before: ChoiceList, choice: u8) -> bool {
+        let places = before.as_slice();
+        !places.contains(&choice) && stands_above(places, self.next_use(places), choice)
+    }
+
+    fn rise(&self, before: ChoiceList, choice: u8) -> u32 {
+        self.way(before.as_slice(), choice).map_or(0, |way| way.rise)
+    }
+
+    fn last(&self, all: ChoiceList) -> u32 {
+        self.held_output.price_with(self.sample, moved(all.as_slice(), self.output), self.list)
+    }
 }
