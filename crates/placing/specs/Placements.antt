@@ -2,18 +2,19 @@
 --   xs      the adders of the chain, adder 1 first
 --   count   how many adders the block has
 --   ps      for each adder of the chain the number of the block's adder at which it stands
-use Rattle.std.specs.Prelude.{◌≡◌, ℕ, zero, suc, ◌<◌, ◌≤◌, ◌≢◌, Bool, true, false, ◌⊎◌, List, [], ◌∷◌, length, Some, None, Option, slice_index, slice_index_or}
+use Rattle.std.specs.Prelude.{◌≡◌, ℕ, zero, suc, ◌+◌, ◌<◌, ◌≤◌, ◌≢◌, Bool, true, false, cond, List, [], ◌∷◌, map, length, Some, None, Ok, Err, Option, Result, nat_eq, slice_index, slice_index_or}
 use Rattle.adders.specs.declared.wiring.Adder.{Adder}
 use Rattle.adders.specs.declared.wiring.Operand.{Operand}
 use Rattle.adders.specs.declared.wiring.Sign.TheVariants.{Minus}
-use Rattle.adders.specs.Values.{wired}
+use Rattle.adders.specs.declared.refusals.Refusal.{Refusal}
+use Rattle.adders.specs.Values.{Slots, wired}
 use Rattle.chains.specs.declared.model.Chain.{Chain}
 use Rattle.chains.specs.Chains.{chain_adders, chain_constant}
 use Rattle.rows.specs.declared.model.Row.{Row}
 use Rattle.rows.specs.Reading.{HasSource}
 use Rattle.rows.specs.Rows.{adder_at, constant_of}
 use Rattle.blocks.specs.declared.model.Block.{Block}
-use Rattle.blocks.specs.Blocks.{row_of, Rewritten}
+use Rattle.blocks.specs.Blocks.{Rewritten}
 
 pub record Placement : Type 0 where
   pub places : List ℕ
@@ -59,6 +60,24 @@ pub record PlacedRow (chain : Chain) (p : Placement) (row : Row) : Type 0 where
   pub others : (j : ℕ) → ((d : ℕ) → d < length p.places → place p d ≢ j) → adder_at row j ≡ None
   pub source : row.output.source ≡ placed_source p (length (chain_adders chain))
   pub shift : row.output.shift ≡ chain.shift
+
+-- The slots and the output of that row, by a computation that any places and swaps will do for.
+
+-- what stands at the block's adder j: the first of the adders xs whose place is j, placed; the chain has d adders before them
+abbrev pub first_at : Placement → ℕ → ℕ → List Adder → Option Adder
+first_at p j d [] = None
+first_at p j d (a ∷ xs) = cond (nat_eq (place p d) j) (Some (placed_adder p (swap p d) a)) (first_at p j (d + 1) xs)
+
+abbrev pub placed_slots : Chain → Placement → Slots
+placed_slots chain p = map (λ j. first_at p j 0 (chain_adders chain)) (1 ∷ 2 ∷ 3 ∷ 4 ∷ 5 ∷ 6 ∷ 7 ∷ 8 ∷ [])
+
+abbrev pub placed_output : Chain → Placement → Operand
+placed_output chain p = record { source = placed_source p (length (chain_adders chain)); shift = chain.shift }
+
+-- a row is answered, the chain's at this placement, and it multiplies by the chain's constant
+abbrev pub IsPlaced : Chain → Placement → Result Row Refusal → Type 0
+IsPlaced chain p (Ok row) = PlacedRow chain p row × (constant_of row ≡ chain_constant chain)
+IsPlaced chain p (Err e) = ⊥
 
 -- The block after, if the chain stands so at a code of the block before.
 pub record Placed (before : Block) (code : ℕ) (chain : Chain) (p : Placement) (after : Block) : Type 0 where

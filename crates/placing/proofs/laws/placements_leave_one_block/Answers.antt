@@ -1,0 +1,5 @@
+use Rattle.placing.proofs.Placed.{placement_law}
+use Rattle.placing.proofs.laws.placements_leave_one_block.Goals as goal
+
+pub returns : goal.returns
+returns c = placement_law
