@@ -3,4 +3,4 @@ pub mod Laid
 pub mod Made
 pub mod Left
 pub mod Existing
-pub mod Placed
+pub mod Whole

@@ -1,10 +1,10 @@
 -- The row that a placement makes of a chain: that there is one, that it is one, and its constant and values.
-use Rattle.std.proofs.Common.{◌≡◌, ℕ, zero, suc, ◌+◌, ◌-◌, ◌<◌, ◌≤◌, ◌≢◌, cond, leb, ◌⊎◌, List, [], ◌∷◌, map, length, get_or, is_some, Some, None, Ok, Err, Option, Result, refl, sym, ap, ◌∙◌, inl, inr, ⊎_elim, arith}
-use Rattle.std.proofs.lemmas.List.{get_or_past}
+use Rattle.std.proofs.Common.{◌≡◌, ℕ, zero, suc, ◌+◌, ◌-◌, ◌<◌, ◌≤◌, ◌≢◌, cond, leb, ◌⊎◌, List, [], ◌∷◌, map, length, get_or, drop, is_some, Some, None, Ok, Err, Option, Result, refl, sym, ap, ◌∙◌, inl, inr, ⊎_elim, arith}
+use Rattle.std.proofs.lemmas.List.{at_drop_more, get_or_past}
 use Rattle.std.proofs.lemmas.Bool.{cases_lt, cond-true, le-leb, eq-eqb, ne_eqb}
 use Rattle.adders.specs.declared.wiring.Adder.{Adder}
 use Rattle.adders.specs.declared.refusals.Refusal.{Refusal}
-use Rattle.adders.specs.Values.{value, wired}
+use Rattle.adders.specs.Values.{spare_adder, value, wired}
 use Rattle.adders.proofs.Broken.{some_none}
 use Rattle.adders.proofs.Places.{same_list}
 use Rattle.chains.specs.declared.model.Chain.{Chain}
@@ -105,7 +105,7 @@ slot_past : (f : ℕ → Option Adder) (k : ℕ) → 8 ≤ k → get_or (map f (
 slot_past f k h = get_or_past (map f (1 ∷ 2 ∷ 3 ∷ 4 ∷ 5 ∷ 6 ∷ 7 ∷ 8 ∷ [])) k None h
 
 module _ (count : ℕ) (chain : Chain) (p : Placement) (few : count ≤ 8) (adm : Admissible count chain p) where
-  laid_slots : Laid chain p (placed_slots chain p)
+  laid_slots : Laid chain p (placed_slots p (chain_adders chain))
   laid_slots = record {
     there = λ d k a e s.
         let h = nth_within chain d a e in
@@ -120,11 +120,11 @@ module _ (count : ℕ) (chain : Chain) (p : Placement) (few : count ≤ 8) (adm 
         (cases_lt k 8);
   }
 
-  pub keeps_placed : KeepsRow (placed_slots chain p) (placed_output chain p)
-  keeps_placed = keeps_row count chain p adm (placed_slots chain p) laid_slots (placed_output chain p) few refl refl
+  pub keeps_placed : KeepsRow (placed_slots p (chain_adders chain)) (placed_output p chain)
+  keeps_placed = keeps_row count chain p adm (placed_slots p (chain_adders chain)) laid_slots (placed_output p chain) few refl refl
 
   -- what is answered of these slots and this output is the row of the chain
-  placed_of : (r : Row) → r.slots ≡ placed_slots chain p → r.output ≡ placed_output chain p → PlacedRow chain p r
+  placed_of : (r : Row) → r.slots ≡ placed_slots p (chain_adders chain) → r.output ≡ placed_output p chain → PlacedRow chain p r
   placed_of r e f = record {
     there = λ d a t.
         let s = stander count chain p adm d (nth_within chain d a t) in
@@ -140,9 +140,15 @@ module _ (count : ℕ) (chain : Chain) (p : Placement) (few : count ≤ 8) (adm 
 
   pub row_made : (row : Row) × PlacedRow chain p row
   row_made =
-      let r : Row = record { slots = placed_slots chain p; output = placed_output chain p; room = refl; lawful = ap is_some (rules_from_keeps (placed_slots chain p) (placed_output chain p) keeps_placed) } in
+      let r : Row = record { slots = placed_slots p (chain_adders chain); output = placed_output p chain; room = refl; lawful = ap is_some (rules_from_keeps (placed_slots p (chain_adders chain)) (placed_output p chain) keeps_placed) } in
       (r, placed_of r refl refl)
 
-  pub is_placed : (a : Result Row Refusal) → RowJudged (placed_slots chain p) (placed_output chain p) a → IsPlaced chain p a
+  pub is_placed : (a : Result Row Refusal) → RowJudged (placed_slots p (chain_adders chain)) (placed_output p chain) a → IsPlaced chain p a
   is_placed (Ok r) (kept h e f) = let of = placed_of r e f in (of, constant_placed chain p r of count adm)
-  is_placed (Err x) (broken h) = some_none (sym h ∙ rules_from_keeps (placed_slots chain p) (placed_output chain p) keeps_placed)
+  is_placed (Err x) (broken h) = some_none (sym h ∙ rules_from_keeps (placed_slots p (chain_adders chain)) (placed_output p chain) keeps_placed)
+
+-- one that stands elsewhere is passed over
+pub first_passed : (p : Placement) (j d : ℕ) (xs : List Adder) → d < length xs → place p d ≢ j → first_at p j d (drop d xs) ≡ first_at p j (d + 1) (drop (d + 1) xs)
+first_passed p j d xs h ne =
+    at_drop_more (first_at p j d) xs d spare_adder h
+    ∙ ap (λ b. cond b (Some (placed_adder p (swap p d) (get_or xs d spare_adder))) (first_at p j (d + 1) (drop (d + 1) xs))) (ne_eqb (place p d) j ne)

@@ -20,6 +20,9 @@ pub record Placement : Type 0 where
   pub places : List ℕ
   pub swaps : List Bool
 
+abbrev pub at_places : List ℕ → List Bool → Placement
+at_places ps ss = record { places = ps; swaps = ss }
+
 -- adder d + 1 of the chain
 abbrev pub nth_adder : Chain → ℕ → Option Adder
 nth_adder chain d = slice_index_or (wired (chain_adders chain)) d None
@@ -68,11 +71,11 @@ abbrev pub first_at : Placement → ℕ → ℕ → List Adder → Option Adder
 first_at p j d [] = None
 first_at p j d (a ∷ xs) = cond (nat_eq (place p d) j) (Some (placed_adder p (swap p d) a)) (first_at p j (d + 1) xs)
 
-abbrev pub placed_slots : Chain → Placement → Slots
-placed_slots chain p = map (λ j. first_at p j 0 (chain_adders chain)) (1 ∷ 2 ∷ 3 ∷ 4 ∷ 5 ∷ 6 ∷ 7 ∷ 8 ∷ [])
+abbrev pub placed_slots : Placement → List Adder → Slots
+placed_slots p xs = map (λ j. first_at p j 0 xs) (1 ∷ 2 ∷ 3 ∷ 4 ∷ 5 ∷ 6 ∷ 7 ∷ 8 ∷ [])
 
-abbrev pub placed_output : Chain → Placement → Operand
-placed_output chain p = record { source = placed_source p (length (chain_adders chain)); shift = chain.shift }
+abbrev pub placed_output : Placement → Chain → Operand
+placed_output p chain = record { source = placed_source p (length (chain_adders chain)); shift = chain.shift }
 
 -- a row is answered, the chain's at this placement, and it multiplies by the chain's constant
 abbrev pub IsPlaced : Chain → Placement → Result Row Refusal → Type 0

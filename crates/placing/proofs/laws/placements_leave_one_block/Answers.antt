@@ -1,4 +1,4 @@
-use Rattle.placing.proofs.Placed.{placement_law}
+use Rattle.placing.proofs.Whole.{placement_law}
 use Rattle.placing.proofs.laws.placements_leave_one_block.Goals as goal
 
 pub returns : goal.returns
