@@ -14,7 +14,7 @@ use Rattle.placing.specs.Placements.{Placement, Admissible, PlacedRow, Placed}
 use Rattle.placing.proofs.Made.{row_made, row_one}
 
 -- the chain's row uses no adder that the block has not
-within_block : (count : ℕ) (chain : Chain) (p : Placement) (r : Row) → Admissible count chain p → PlacedRow chain p r → (j : ℕ) → count < j → row_uses (Some r) j ≡ false
+pub within_block : (count : ℕ) (chain : Chain) (p : Placement) (r : Row) → Admissible count chain p → PlacedRow chain p r → (j : ℕ) → count < j → row_uses (Some r) j ≡ false
 within_block count chain p r adm placed j h = ap is_some (placed.others j (λ d l e. omega (arith, adm.inside d l)))
 
 module _ (before : Block) (code : ℕ) (chain : Chain) (p : Placement) (adm : Admissible before.adders chain p) where

@@ -14,7 +14,8 @@ use Rattle.rows.specs.Rules.{KeepsRow}
 use Rattle.rows.specs.Rows.{adder_at, row_value_at, constant_of, RowJudged, kept, broken}
 use Rattle.rows.proofs.Keeping.{rules_from_keeps}
 use Rattle.rows.proofs.Answering.{same_row}
-use Rattle.placing.specs.Placements.{Placement, nth_adder, place, swap, Admissible, placed_source, placed_adder, first_at, placed_slots, placed_output, PlacedRow, IsPlaced}
+use Rattle.placing.specs.Placements.{Placement, nth_adder, place, swap, Admissible, placed_source, placed_adder, PlacedRow}
+use Rattle.placing.specs.Slots.{first_at, placed_slots, placed_output, IsPlaced}
 use Rattle.placing.proofs.Standing.{nth_there, nth_within, NoneAt, stands}
 use Rattle.placing.proofs.Laid.{Laid, stander, some_one, keeps_row, constant_laid, value_laid}
 

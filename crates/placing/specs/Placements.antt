@@ -1,13 +1,14 @@
 -- Placements: where each adder of a chain stands among those of a block, and whether its operands are swapped.
---   xs      the adders of the chain, adder 1 first
+--   p       a placement: for each adder of the chain, adder 1 first, the number of the block's adder at which it stands, and whether its operands are swapped
+--   c, d    adders of the chain, counted from 0
+--   j       the number of an adder of the block
 --   count   how many adders the block has
---   ps      for each adder of the chain the number of the block's adder at which it stands
-use Rattle.std.specs.Prelude.{◌≡◌, ℕ, zero, suc, ◌+◌, ◌<◌, ◌≤◌, ◌≢◌, Bool, true, false, cond, List, [], ◌∷◌, map, length, Some, None, Ok, Err, Option, Result, nat_eq, slice_index, slice_index_or}
+--   r, s    rows; a, b: blocks after
+use Rattle.std.specs.Prelude.{◌≡◌, ℕ, zero, suc, ◌<◌, ◌≤◌, ◌≢◌, Bool, true, false, List, length, Some, None, Option, slice_index, slice_index_or}
 use Rattle.adders.specs.declared.wiring.Adder.{Adder}
 use Rattle.adders.specs.declared.wiring.Operand.{Operand}
 use Rattle.adders.specs.declared.wiring.Sign.TheVariants.{Minus}
-use Rattle.adders.specs.declared.refusals.Refusal.{Refusal}
-use Rattle.adders.specs.Values.{Slots, wired}
+use Rattle.adders.specs.Values.{wired}
 use Rattle.chains.specs.declared.model.Chain.{Chain}
 use Rattle.chains.specs.Chains.{chain_adders, chain_constant}
 use Rattle.rows.specs.declared.model.Row.{Row}
@@ -19,9 +20,6 @@ use Rattle.blocks.specs.Blocks.{Rewritten}
 pub record Placement : Type 0 where
   pub places : List ℕ
   pub swaps : List Bool
-
-abbrev pub at_places : List ℕ → List Bool → Placement
-at_places ps ss = record { places = ps; swaps = ss }
 
 -- adder d + 1 of the chain
 abbrev pub nth_adder : Chain → ℕ → Option Adder
@@ -63,24 +61,6 @@ pub record PlacedRow (chain : Chain) (p : Placement) (row : Row) : Type 0 where
   pub others : (j : ℕ) → ((d : ℕ) → d < length p.places → place p d ≢ j) → adder_at row j ≡ None
   pub source : row.output.source ≡ placed_source p (length (chain_adders chain))
   pub shift : row.output.shift ≡ chain.shift
-
--- The slots and the output of that row, by a computation that any places and swaps will do for.
-
--- what stands at the block's adder j: the first of the adders xs whose place is j, placed; the chain has d adders before them
-abbrev pub first_at : Placement → ℕ → ℕ → List Adder → Option Adder
-first_at p j d [] = None
-first_at p j d (a ∷ xs) = cond (nat_eq (place p d) j) (Some (placed_adder p (swap p d) a)) (first_at p j (d + 1) xs)
-
-abbrev pub placed_slots : Placement → List Adder → Slots
-placed_slots p xs = map (λ j. first_at p j 0 xs) (1 ∷ 2 ∷ 3 ∷ 4 ∷ 5 ∷ 6 ∷ 7 ∷ 8 ∷ [])
-
-abbrev pub placed_output : Placement → Chain → Operand
-placed_output p chain = record { source = placed_source p (length (chain_adders chain)); shift = chain.shift }
-
--- a row is answered, the chain's at this placement, and it multiplies by the chain's constant
-abbrev pub IsPlaced : Chain → Placement → Result Row Refusal → Type 0
-IsPlaced chain p (Ok row) = PlacedRow chain p row × (constant_of row ≡ chain_constant chain)
-IsPlaced chain p (Err e) = ⊥
 
 -- The block after, if the chain stands so at a code of the block before.
 pub record Placed (before : Block) (code : ℕ) (chain : Chain) (p : Placement) (after : Block) : Type 0 where

@@ -2,7 +2,8 @@
 ghost use Rattle.std.specs.Prelude.{◌≡◌, ℕ, ◌≤◌};
 ghost use Rattle.chains.specs.Chains.{chain_adders};
 ghost use Rattle.rows.specs.Rows.{RowJudged};
-ghost use Rattle.placing.specs.Placements.{at_places, place, swap, placed_source, placed_operand, placed_adder, first_at, placed_slots, placed_output, Admissible, IsPlaced};
+ghost use Rattle.placing.specs.Placements.{place, swap, placed_source, placed_operand, placed_adder, Admissible};
+ghost use Rattle.placing.specs.Slots.{at_places, first_at, placed_slots, placed_output, IsPlaced};
 
 use adders::{Adder, Operand, Refusal};
 use chains::Chain;
@@ -13,13 +14,13 @@ const NUMBERS: [usize; 8] = [1, 2, 3, 4, 5, 6, 7, 8];
 
 // Where each adder of a chain stands, and whether its operands are swapped.
 #[derive(Clone, Copy)]
-struct Seats<'a> {
+struct Placement<'a> {
     places: &'a [u8],
     swaps: &'a [bool],
 }
 
-impl Seats<'_> {
-    // The block's source for a source of the chain; one that has no place is read as the sample.
+impl Placement<'_> {
+    // The block's source for a source of the chain; an adder that stands nowhere gives way to the sample.
     fn source(self, source: u8) -> u8
         ensures { result ≡ placed_source (at_places self.entry.places.now self.entry.swaps.now) source }
     {
@@ -29,7 +30,7 @@ impl Seats<'_> {
         }
     }
 
-    // Where the chain's adder of this index stands.
+    // Where the chain's adder of this index stands; 0, where none is, if that is not told.
     fn place(self, index: usize) -> u8
         ensures { result ≡ place (at_places self.entry.places.now self.entry.swaps.now) index }
     {
@@ -63,6 +64,7 @@ impl Seats<'_> {
     }
 
     // The first of the adders that stands at this number.
+    #[tactic(auto, using(crate::proofs::Made::first_passed))]
     fn adder_at(self, number: usize, adders: &[Adder]) -> Option<Adder>
         ensures { result ≡ first_at (at_places self.entry.places.now self.entry.swaps.now) number 0 adders.now }
     {
@@ -78,11 +80,7 @@ impl Seats<'_> {
     fn slots(self, adders: &[Adder]) -> [Option<Adder>; 8]
         ensures { result ≡ placed_slots (at_places self.entry.places.now self.entry.swaps.now) adders.now }
     {
-        NUMBERS.map(
-            |number| -> Option<Adder>
-                ensures { result ≡ first_at (at_places self.entry.places.now self.entry.swaps.now) number 0 adders.entry.now }
-            { self.adder_at(number, adders) },
-        )
+        NUMBERS.map(|number| self.adder_at(number, adders))
     }
 
     // The last adder, or the sample where there is none, under the chain's output shift.
@@ -96,12 +94,12 @@ impl Seats<'_> {
     }
 }
 
-// The row of the chain with its adders at these places, the operands of some of them swapped; or, at places that are not admissible, the first rule that it breaks.
+// The row of the chain with its adders at these places, some with their operands swapped; or the first rule of a row that this breaks, as no admissible placement does.
 #[tactic(auto, using(crate::proofs::Made::is_placed))]
 pub fn placed_row(chain: &Chain, places: &[u8], swaps: &[bool]) -> Result<Row, Refusal>
     ensures answer { RowJudged (placed_slots (at_places places.now swaps.now) (chain_adders chain.now)) (placed_output (at_places places.now swaps.now) chain.now) result }
     ensures placed { (count : ℕ) → count ≤ 8 → Admissible count chain.now (at_places places.now swaps.now) → IsPlaced chain.now (at_places places.now swaps.now) result }
 {
-    let seats = Seats { places, swaps };
-    Row::new(seats.slots(chain.adders()), seats.output(chain))
+    let placement = Placement { places, swaps };
+    Row::new(placement.slots(chain.adders()), placement.output(chain))
 }

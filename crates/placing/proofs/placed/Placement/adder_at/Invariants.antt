@@ -1,6 +1,6 @@
 use Rattle.std.proofs.Common.{◌≡◌, drop}
-use Rattle.placing.specs.Placements.{at_places, first_at}
-use Rattle.placing.proofs.placed.Seats.adder_at.Given as goal
+use Rattle.placing.specs.Slots.{at_places, first_at}
+use Rattle.placing.proofs.placed.Placement.adder_at.Given as goal
 
 abbrev pub invariant-loop-index : goal.invariant-loop-index
 invariant-loop-index l =
