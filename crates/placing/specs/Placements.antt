@@ -1,8 +1,10 @@
 -- Placements: where each adder of a chain stands among those of a block, and whether its operands are swapped.
---   xs      the adders of the chain, adder 1 first
+--   p       a placement: for each adder of the chain, adder 1 first, the number of the block's adder at which it stands, and whether its operands are swapped
+--   c, d    adders of the chain, counted from 0
+--   j       the number of an adder of the block
 --   count   how many adders the block has
---   ps      for each adder of the chain the number of the block's adder at which it stands
-use Rattle.std.specs.Prelude.{◌≡◌, ℕ, zero, suc, ◌<◌, ◌≤◌, ◌≢◌, Bool, true, false, ◌⊎◌, List, [], ◌∷◌, length, Some, None, Option, slice_index, slice_index_or}
+--   r, s    rows; a, b: blocks after
+use Rattle.std.specs.Prelude.{◌≡◌, ℕ, zero, suc, ◌<◌, ◌≤◌, ◌≢◌, Bool, true, false, List, length, Some, None, Option, slice_index, slice_index_or}
 use Rattle.adders.specs.declared.wiring.Adder.{Adder}
 use Rattle.adders.specs.declared.wiring.Operand.{Operand}
 use Rattle.adders.specs.declared.wiring.Sign.TheVariants.{Minus}
@@ -13,7 +15,7 @@ use Rattle.rows.specs.declared.model.Row.{Row}
 use Rattle.rows.specs.Reading.{HasSource}
 use Rattle.rows.specs.Rows.{adder_at, constant_of}
 use Rattle.blocks.specs.declared.model.Block.{Block}
-use Rattle.blocks.specs.Blocks.{row_of, Rewritten}
+use Rattle.blocks.specs.Blocks.{Rewritten}
 
 pub record Placement : Type 0 where
   pub places : List ℕ

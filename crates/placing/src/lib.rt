@@ -2,5 +2,7 @@
 #![tactic(auto)]
 
 mod laws;
+mod placed;
 
 pub use laws::placements_leave_one_block;
+pub use placed::placed_row;
