@@ -1,0 +1,3 @@
+pub mod Lines
+pub mod Forms
+pub mod Readings
