@@ -4,7 +4,9 @@
 mod call;
 mod counted;
 mod reader;
+mod width;
 mod words;
 
 pub use call::{Call, SuppliedList, Unread};
 pub use reader::read_call;
+pub use width::read_width;
