@@ -8,7 +8,6 @@ use Rattle.adders.specs.declared.refusals.Refusal.TheVariants.{CodeLive, BlockTo
 use Rattle.adders.specs.Rules.{Rule, rule, Changed}
 use Rattle.chains.specs.declared.model.Chain.{Chain}
 use Rattle.chains.specs.Chains.{chain_adders}
-use Rattle.rows.specs.declared.model.Row.{Row}
 use Rattle.tables.specs.Tables.{code_rules}
 use Rattle.blocks.specs.declared.model.Block.{Block}
 use Rattle.blocks.specs.Blocks.{row_of}
@@ -40,8 +39,8 @@ pub record Fused (t : Tables) (before : Block) (code : ℕ) (chain : Chain) (pri
   pub chosen : Chosen t before code chain placement after
   pub priced : price ≡ block_price t after
 
--- a code of the sixteen, then an idle one, then a chain with no more adders than the block
-abbrev pub fusing_rules : Option Row → ℕ → Chain → ℕ → List Rule
+-- a code of the sixteen, then one with nothing there, then a chain with no more adders than the block
+abbrev pub fusing_rules : {A : Type 0} → Option A → ℕ → Chain → ℕ → List Rule
 fusing_rules row count chain code = code_rules code ++ rule (not (is_some row)) CodeLive ∷ rule (nat_le (length (chain_adders chain)) count) BlockTooSmall ∷ []
 
 -- What the rules say of one fusing, its answer and the block after it.

@@ -30,6 +30,13 @@ at_least n m d rest hn hm e =
     let h = read_least (n * 10 + (48 + d - 48)) rest in
     omega arith
 
+-- a digit, and anything behind it
+pub first_least : (m d : ℕ) (rest : List ℕ) → m < 2 ^ 64 → (48 + d) ∷ rest ≡ decimal m → d ≤ m
+first_least m d rest h e =
+    let all : read_on (0 * 10 + (48 + d - 48)) rest ≡ m = ap (read_on 0) e ∙ digits_value-decimal own m h in
+    let least = read_least (0 * 10 + (48 + d - 48)) rest in
+    omega arith
+
 pub grows : (n d : ℕ) → 1 ≤ n → d ≤ 9 → 10 * n + d < 2 ^ 64 → decimal n ++ (48 + d) ∷ [] ≡ decimal (10 * n + d)
 grows n d low small fits =
     let tens : (10 * n + d) / 10 ≡ n = omega arith in

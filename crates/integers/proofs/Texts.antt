@@ -19,12 +19,15 @@ use Rattle.integers.proofs.Numbers.{at_least, grows, zero_first, zero_alone, hel
 
 -- Numbers and their first bytes.
 
+-- a number begins with a digit
+pub first_byte : (n b : ℕ) (rest cs : List ℕ) → n < 2 ^ 64 → decimal n ++ rest ≡ b ∷ cs → IsInRange 48 57 b
+first_byte n b rest cs h e =
+    let is : get_or (decimal n) 0 0 ≡ b = sym (get_or_append_left (decimal n) rest 0 0 (decimal_nonempty n h)) ∙ ap (λ l. get_or l 0 0) e in
+    subst (IsInRange 48 57) is (digit_at (decimal n) 0 (decimal_is_IsNumeral n h).0.1 (decimal_nonempty n h))
+
 -- a number in digits is none with a minus
 not_minus : (n : ℕ) (rest : List ℕ) (cs : List ℕ) → n < 2 ^ 64 → decimal n ++ rest ≡ 45 ∷ cs → ⊥
-not_minus n rest cs h e =
-    let digit = digit_at (decimal n) 0 (decimal_is_IsNumeral n h).0.1 (decimal_nonempty n h) in
-    let is : get_or (decimal n) 0 0 ≡ 45 = sym (get_or_append_left (decimal n) rest 0 0 (decimal_nonempty n h)) ∙ ap (λ l. get_or l 0 0) e in
-    omega (arith, digit.0)
+not_minus n rest cs h e = let digit = first_byte n 45 rest cs h e in omega (arith, digit.0)
 
 some_digits : (z : ℤ) → InWord z → 1 ≤ length (signed_decimal z)
 some_digits (pos n) h = let m = held_above n h in decimal_nonempty n (omega arith)

@@ -5,5 +5,5 @@ mod natural;
 mod reader;
 mod scan;
 
-pub use natural::Natural;
+pub use natural::{Natural, NineDigits, TwoDigits};
 pub use reader::read_integer;

@@ -1,48 +1,58 @@
-// The reader of a number without a sign, of at most nine digits, one byte at a time.
-ghost use Rattle.std.specs.Prelude.{List, [], ◌∷◌, ◌++◌, ◌+◌, ℕ};
-ghost use Rattle.integers.specs.Naturals.{NineDigits, NaturalForm};
-ghost use Rattle.integers.specs.NaturalScan.{NaturalReached, natural_viable, natural_unspaced};
+// The reader of a number without a sign, up to a last one, one byte at a time.
+ghost use Rattle.std.specs.Prelude.{◌≡◌, List, [], ◌∷◌, ◌++◌, ◌+◌, ℕ};
+ghost use Rattle.integers.specs.Naturals.{NumberUpTo, FormUpTo};
+ghost use Rattle.integers.specs.NaturalScan.{NaturalReached, grown, natural_viable, natural_unspaced};
 
 use forms::{Digit, Scanner, Word};
 
-// The least number of nine digits.
-const NINE_DIGITS: u32 = 100_000_000;
+// A number of at most nine digits.
+pub type NineDigits = Natural<999_999_999>;
 
-// A number as far as it is read: nothing yet, or some digits.
+// A number of at most two digits.
+pub type TwoDigits = Natural<99>;
+
+// A number up to LAST, as far as it is read: nothing yet, or some digits.
 #[derive(Clone, Copy)]
-pub enum Natural {
+pub enum Natural<const LAST: u32> {
     Nothing,
     Number(u32),
 }
 
-impl Scanner for Natural {
+impl<const LAST: u32> Natural<LAST> {
+    // The number with one digit more, `None` behind a zero, which is a number of its own.
+    fn grown(self, digit: Digit) -> Option<u64>
+        ensures { result ≡ grown self.entry digit }
+    {
+        let digit = u64::from(digit.value());
+        match self {
+            Natural::Nothing => Some(digit),
+            Natural::Number(0) => None,
+            Natural::Number(number) => Some(10 * u64::from(number) + digit),
+        }
+    }
+}
+
+impl<const LAST: u32> Scanner for Natural<LAST> {
     type Said = u32;
 
-    ghost Says = { λ bs n. NineDigits n bs };
+    ghost Says = { λ bs n. NumberUpTo LAST n bs };
 
-    ghost Form = { NaturalForm };
+    ghost Form = { FormUpTo LAST };
 
-    ghost Reached = { NaturalReached };
+    ghost Reached = { NaturalReached LAST };
 
-    fn start() -> Natural {
+    fn start() -> Natural<LAST> {
         Natural::Nothing
     }
 
-    #[tactic(auto, using(crate::proofs::NaturalTexts::first_on, crate::proofs::NaturalTexts::digit_on))]
-    fn step(self, byte: u8) -> Option<Natural> {
-        let digit = u32::from(Digit::of(byte)?.value());
-        match self {
-            Natural::Nothing => Some(Natural::Number(digit)),
-            // a zero is a number of its own
-            Natural::Number(0) => None,
-            Natural::Number(number) if number < NINE_DIGITS => {
-                Some(Natural::Number(10 * number + digit))
-            }
-            Natural::Number(_) => None,
+    fn step(self, byte: u8) -> Option<Natural<LAST>> {
+        let number = self.grown(Digit::of(byte)?)?;
+        if number > u64::from(LAST) {
+            return None;
         }
+        Some(Natural::Number(number as u32))
     }
 
-    #[tactic(auto, using(crate::proofs::NaturalTexts::empty_off))]
     fn end(self) -> Option<u32> {
         match self {
             Natural::Nothing => None,
@@ -52,9 +62,9 @@ impl Scanner for Natural {
 
     ghost said = { λ bs n says. (n, says) };
 
-    ghost viable = { natural_viable };
+    ghost viable = { natural_viable LAST };
 }
 
-impl Word for Natural {
-    ghost unspaced = { natural_unspaced };
+impl<const LAST: u32> Word for Natural<LAST> {
+    ghost unspaced = { natural_unspaced LAST };
 }

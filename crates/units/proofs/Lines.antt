@@ -7,8 +7,8 @@ use Rattle.forms.specs.Breaking.{BrokenAt}
 use Rattle.forms.specs.Keys.{KeyThen}
 use Rattle.forms.specs.Parts.{SpaceBetween}
 use Rattle.forms.proofs.Breaks.{breaks_once, broken_alike}
-use Rattle.integers.specs.Naturals.{NineDigits, NaturalForm}
-use Rattle.integers.proofs.Readings.{number_before_space}
+use Rattle.integers.specs.Naturals.{NineDigits, FormUpTo}
+use Rattle.integers.proofs.Readings.{number_before_space, small_said, small_told}
 use Rattle.prices.specs.declared.per_bit.UnitPrices.{UnitPrices}
 use Rattle.units.specs.Form.{key, UnitsLine, Form, Reading}
 
@@ -17,7 +17,7 @@ abbrev pub PartsLine : UnitPrices → List ℕ → Type 0
 PartsLine u = KeyThen key (SpaceBetween (NineDigits u.adds) (SpaceBetween (NineDigits u.subtracts) (SpaceBetween (NineDigits u.both) (NineDigits u.two_to_one))))
 
 abbrev pub PartsForm : List ℕ → Type 0
-PartsForm = KeyThen key (SpaceBetween NaturalForm (SpaceBetween NaturalForm (SpaceBetween NaturalForm NaturalForm)))
+PartsForm = KeyThen key (SpaceBetween (FormUpTo 999999999) (SpaceBetween (FormUpTo 999999999) (SpaceBetween (FormUpTo 999999999) (FormUpTo 999999999))))
 
 pub told : (u : UnitPrices) (bs : List ℕ) → PartsLine u bs → UnitsLine u bs
 told u bs line =
@@ -31,10 +31,10 @@ told u bs line =
           ∙ ap (λ l. decimal u.adds ++ 32 ∷ l) ((λ i. second.before.written i ++ 32 ∷ third.whole i)
           ∙ ap (λ l. decimal u.subtracts ++ 32 ∷ l) (λ i. third.before.written i ++ 32 ∷ third.behind.written i))
           );
-      adds = first.before.small;
-      subtracts = second.before.small;
-      both = third.before.small;
-      two_to_one = third.behind.small;
+      adds = small_told first.before;
+      subtracts = small_told second.before;
+      both = small_told third.before;
+      two_to_one = small_told third.behind;
     }
 
 formed : (bs : List ℕ) → PartsForm bs → Form bs
@@ -71,18 +71,18 @@ parted bs (u, is) = record {
     front = decimal u.adds;
     back = decimal u.subtracts ++ 32 ∷ (decimal u.both ++ 32 ∷ decimal u.two_to_one);
     whole = refl;
-    before = (u.adds, record { small = is.adds; written = refl });
+    before = (u.adds, small_said u.adds is.adds);
     behind = record {
       front = decimal u.subtracts;
       back = decimal u.both ++ 32 ∷ decimal u.two_to_one;
       whole = refl;
-      before = (u.subtracts, record { small = is.subtracts; written = refl });
+      before = (u.subtracts, small_said u.subtracts is.subtracts);
       behind = record {
         front = decimal u.both;
         back = decimal u.two_to_one;
         whole = refl;
-        before = (u.both, record { small = is.both; written = refl });
-        behind = (u.two_to_one, record { small = is.two_to_one; written = refl });
+        before = (u.both, small_said u.both is.both);
+        behind = (u.two_to_one, small_said u.two_to_one is.two_to_one);
       };
     };
   };

@@ -3,7 +3,7 @@ ghost use Rattle.forms.specs.Answers.{Only};
 ghost use Rattle.units.specs.Form.{key, Reading};
 
 use forms::{FormError, Key, Keyed, Parted};
-use integers::Natural;
+use integers::NineDigits;
 use prices::UnitPrices;
 
 // The key of a line of unit prices.
@@ -17,7 +17,10 @@ impl Key for UnitsKey {
     }
 }
 
-type Units = Keyed<UnitsKey, Parted<Natural, Parted<Natural, Parted<Natural, Natural>>>>;
+type Units = Keyed<
+    UnitsKey,
+    Parted<NineDigits, Parted<NineDigits, Parted<NineDigits, NineDigits>>>,
+>;
 
 // The unit prices that a line says, or the first byte after which no such line can follow, the length where it stops short.
 pub fn read_units(line: &[u8]) -> Result<UnitPrices, FormError>

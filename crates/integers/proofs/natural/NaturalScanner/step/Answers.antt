@@ -1,23 +1,36 @@
-use Rattle.std.proofs.Common.{◌≡◌, ◌≤◌, ◌^◌, None, Some, rules, subst}
+use Rattle.std.proofs.Common.{◌≡◌, ◌<◌, ◌≤◌, ◌^◌, None, Some, rules}
 use Rattle.forms.specs.Digits.{digit}
-use Rattle.integers.specs.declared.natural.Natural.TheVariants.{Number}
-use Rattle.integers.specs.NaturalScan.{NaturalReached}
-use Rattle.integers.proofs.NaturalTexts.{no_digit_off, after_zero, after_nine}
+use Rattle.integers.specs.NaturalScan.{grown}
+use Rattle.integers.proofs.NaturalTexts.{no_digit_off, zero_off, past_off, grown_on}
 use Rattle.integers.proofs.natural.NaturalScanner.step.Goals as goal
 
 pub returns-in_err-of : goal.returns-in_err-of
-returns-in_err-of c bs reached =
+returns-in_err-of g c bs reached =
     let none : digit c.args.byte ≡ None = search rules in
-    rw c.from_residual.ensures (no_digit_off bs c.args.byte none)
+    rw c.from_residual.ensures (no_digit_off g.row.LAST bs c.args.byte none)
 
-pub returns-in-Number-eq0 : goal.returns-in-Number-eq0
-returns-in-Number-eq0 c bs reached =
-    let some : digit c.args.byte ≡ Some c.from-digit.result = search rules in
-    let zero : c.args.self ≡ Number 0 = search rules in
-    after_zero bs c.args.byte c.from-digit.result some (subst (NaturalReached bs) zero reached)
+pub returns-in_err-number : goal.returns-in_err-number
+returns-in_err-number g c bs reached =
+    let d = c.in_ok-of.field-0 in
+    let some : digit c.args.byte ≡ Some d = search rules in
+    let made : grown c.args.self d ≡ None = search rules in
+    rw c.from_residual-in_err-number.ensures (zero_off g.row.LAST bs c.args.byte d some c.args.self reached made)
 
-pub returns-in-Number-2 : goal.returns-in-Number-2
-returns-in-Number-2 c bs reached =
-    let some : digit c.args.byte ≡ Some c.from-digit.result = search rules in
-    let large : 10 ^ 8 ≤ c.in-Number.number = search rules in
-    after_nine bs c.args.byte c.from-digit.result some c.in-Number.number (subst (NaturalReached bs) c.in-Number.is reached) large
+pub returns-then-number-from : goal.returns-then-number-from
+returns-then-number-from g c bs reached =
+    let d = c.in_ok-of.field-0 in
+    let n = c.in_ok-number.number in
+    let some : digit c.args.byte ≡ Some d = search rules in
+    let made : grown c.args.self d ≡ Some n = search rules in
+    let past : g.row.LAST < n = search rules in
+    past_off g.row.LAST bs c.args.byte d some c.args.self n reached made past
+
+pub returns : goal.returns
+returns g c bs reached =
+    let d = c.in_ok-of.field-0 in
+    let n = c.in_ok-number.number in
+    let some : digit c.args.byte ≡ Some d = search rules in
+    let made : grown c.args.self d ≡ Some n = search rules in
+    let most : n ≤ g.row.LAST = search rules in
+    let held : n < 2 ^ 32 = search rules in
+    grown_on g.row.LAST bs c.args.byte d some c.args.self n reached made most held
