@@ -1,0 +1,46 @@
+-- What holds after every list of calls from a place that is not yet founded, whatever price lists they were handed.
+--   es, os   the calls, and beside each its outcome
+--   k, b     the book and the block before them, z the block after them
+use Rattle.std.specs.Prelude.{List, [], ◌∷◌}
+use Rattle.blocks.specs.declared.model.Block.{Block}
+use Rattle.blocks.specs.Blocks.{Unfounded}
+use Rattle.blocks.specs.Calls.{founding, retiring, moving}
+use Rattle.blocks.specs.Books.{Book, empty_book, Tells}
+use Rattle.pricing.specs.Laws.{NeverDearer}
+use Rattle.history.specs.declared.outcome.Outcome.{Outcome}
+use Rattle.history.specs.Events.{Event, calling, fusing, Step}
+use Rattle.history.specs.Books.{noted, book, Judged}
+
+-- the calls one after another, each keeping to its rules
+pub data Run : Block → List Event → List Outcome → Block → Type 0 where
+  rests : {b : Block} → Run b [] [] b
+  goes : {b m z : Block} {e : Event} {es : List Event} {o : Outcome} {os : List Outcome} → Step e b o m → Run m es os z → Run b (e ∷ es) (o ∷ os) z
+
+-- a retiring leaves no dearer block, under every lawful pair of price tables
+abbrev pub NoDearer : Event → Block → Block → Type 0
+NoDearer (calling (founding chain code width)) before after = Unit {0}
+NoDearer (calling (retiring code)) before after = NeverDearer after before
+NoDearer (calling (moving code adder amount)) before after = Unit {0}
+NoDearer (fusing chain code t) before after = Unit {0}
+
+-- what holds of one call, where the book says k before it
+pub record Kept (k : Book) (e : Event) (b : Block) (o : Outcome) (m : Block) : Type 0 where
+  pub told : Tells k b
+  pub step : Step e b o m
+  pub judged : Judged k e o
+  pub no_dearer : NoDearer e b m
+
+-- that holds of each call, and the book agrees with the block after the last
+pub data EachKept : Book → Block → List Event → List Outcome → Block → Type 0 where
+  ends : {k : Book} {b : Block} → Tells k b → EachKept k b [] [] b
+  next : {k : Book} {b m z : Block} {e : Event} {es : List Event} {o : Outcome} {os : List Outcome} → Kept k e b o m → EachKept (noted k e) m es os z → EachKept k b (e ∷ es) (o ∷ os) z
+
+-- From a place not yet founded and the empty book.
+pub record History (es : List Event) (os : List Outcome) (z : Block) : Type 0 where
+  pub start : Block
+  pub unfounded : Unfounded start
+  pub each : EachKept empty_book start es os z
+  pub told : Tells (book empty_book es) z
+
+abbrev pub EveryHistory : Type 0
+EveryHistory = (start z : Block) (es : List Event) (os : List Outcome) → Unfounded start → Run start es os z → History es os z
