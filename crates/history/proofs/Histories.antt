@@ -1,5 +1,6 @@
 -- Every list of calls.
-use Rattle.std.proofs.Common.{List, [], ◌∷◌, Ok, Err, ap}
+use Rattle.std.proofs.Common.{◌≡◌, ℕ, ◌+◌, ◌<◌, ◌≤◌, List, [], ◌∷◌, ◌++◌, length, map, take, set, get_or, Ok, Err, sym, ap, ◌∙◌, subst}
+use Rattle.std.proofs.lemmas.List.{take_more, take_more_set, take_all, map-append}
 use Rattle.blocks.specs.declared.model.Block.{Block}
 use Rattle.blocks.specs.Blocks.{Unfounded, row_constant_of}
 use Rattle.blocks.specs.Calls.{founding, retiring, moving}
@@ -49,3 +50,24 @@ every_history start z es os u run =
       each = each;
       told = told_last empty_book start z es os each;
     }
+
+-- one call more
+run_push : (b m z : Block) (es : List Event) (os : List Outcome) (e : Event) (o : Outcome) → Run b es os m → Step e m o z → Run b (es ++ e ∷ []) (os ++ o ∷ []) z
+run_push b m z [] [] e o rests s = goes s rests
+run_push b m z [] (p ∷ os) e o run s = elim run [ ]
+run_push b m z (f ∷ es) [] e o run s = elim run [ ]
+run_push b m z (f ∷ es) (p ∷ os) e o (goes {m = n} t run) s = goes t (run_push n m z es os e o run s)
+
+-- a turn of a loop over the calls, and its end
+pub run_more : {X : Type 0} (f : X → Event) (calls : List X) (outs : List Outcome) (i : ℕ) (x : X) (o : Outcome) (start m z : Block) → i < length calls → i < length outs → x ≡ get_or calls i x → Run start (map f (take i calls)) (take i outs) m → Step (f x) m o z → Run start (map f (take (i + 1) calls)) (take (i + 1) (set outs i o)) z
+run_more f calls outs i x o start m z low short there run s =
+    let more = take_more calls i x low ∙ ap (λ y. take i calls ++ y ∷ []) (sym there) in
+    let events = ap (map f) more ∙ map-append f (take i calls) (x ∷ []) in
+    subst (λ es. Run start es (take (i + 1) (set outs i o)) z) (sym events)
+      (subst (λ os. Run start (map f (take i calls) ++ f x ∷ []) os z) (sym (take_more_set outs i o short))
+        (run_push start m z (map f (take i calls)) (take i outs) (f x) o run s))
+
+pub run_whole : {X : Type 0} (f : X → Event) (calls : List X) (outs : List Outcome) (i : ℕ) (start z : Block) → length calls ≤ i → length outs ≤ i → Run start (map f (take i calls)) (take i outs) z → Run start (map f calls) outs z
+run_whole f calls outs i start z all each run =
+    subst (λ es. Run start es outs z) (ap (map f) (take_all i calls all))
+      (subst (λ os. Run start (map f (take i calls)) os z) (take_all i outs each) run)

@@ -1,7 +1,9 @@
 -- What holds after every list of calls from a place that is not yet founded, whatever price lists they were handed.
 --   es, os   the calls, and beside each its outcome
 --   k, b     the book and the block before them, z the block after them
-use Rattle.std.specs.Prelude.{List, [], ◌∷◌}
+use Rattle.std.specs.Prelude.{List, [], ◌∷◌, length, nat_eq}
+use Rattle.adders.specs.declared.refusals.Refusal.TheVariants.{LengthsDiffer}
+use Rattle.adders.specs.Rules.{Rule, rule}
 use Rattle.blocks.specs.declared.model.Block.{Block}
 use Rattle.blocks.specs.Blocks.{Unfounded}
 use Rattle.blocks.specs.Calls.{founding, retiring, moving}
@@ -44,3 +46,7 @@ pub record History (es : List Event) (os : List Outcome) (z : Block) : Type 0 wh
 
 abbrev pub EveryHistory : Type 0
 EveryHistory = (start z : Block) (es : List Event) (os : List Outcome) → Unfounded start → Run start es os z → History es os z
+
+-- there is a place for the outcome of each call, and no more
+abbrev pub length_rules : {C : Type 0} → List C → List Outcome → List Rule
+length_rules calls outcomes = rule (nat_eq (length calls) (length outcomes)) LengthsDiffer ∷ []

@@ -1,3 +1,4 @@
+pub mod Outcomes
 pub mod Events
 pub mod Books
 pub mod Histories

@@ -1,8 +1,11 @@
 // What every list of calls on a block promises.
 #![tactic(auto)]
 
+mod applying;
 mod laws;
 mod outcome;
+mod standin;
 
+pub use applying::{apply, apply_all};
 pub use laws::{events_follow_the_book, every_history_holds};
 pub use outcome::Outcome;
