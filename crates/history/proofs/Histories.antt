@@ -64,10 +64,10 @@ run_more f calls outs i x o start m z low short there run s =
     let more = take_more calls i x low ∙ ap (λ y. take i calls ++ y ∷ []) (sym there) in
     let events = ap (map f) more ∙ map-append f (take i calls) (x ∷ []) in
     subst (λ es. Run start es (take (i + 1) (set outs i o)) z) (sym events)
-      (subst (λ os. Run start (map f (take i calls) ++ f x ∷ []) os z) (sym (take_more_set outs i o short))
-        (run_push start m z (map f (take i calls)) (take i outs) (f x) o run s))
+    (subst (λ os. Run start (map f (take i calls) ++ f x ∷ []) os z) (sym (take_more_set outs i o short))
+    (run_push start m z (map f (take i calls)) (take i outs) (f x) o run s))
 
 pub run_whole : {X : Type 0} (f : X → Event) (calls : List X) (outs : List Outcome) (i : ℕ) (start z : Block) → length calls ≤ i → length outs ≤ i → Run start (map f (take i calls)) (take i outs) z → Run start (map f calls) outs z
 run_whole f calls outs i start z all each run =
     subst (λ es. Run start es outs z) (ap (map f) (take_all i calls all))
-      (subst (λ os. Run start (map f (take i calls)) os z) (take_all i outs each) run)
+    (subst (λ os. Run start (map f (take i calls)) os z) (take_all i outs each) run)

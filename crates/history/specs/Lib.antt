@@ -2,3 +2,4 @@ pub mod Outcomes
 pub mod Events
 pub mod Books
 pub mod Histories
+pub mod Replays

@@ -1,5 +1,5 @@
 // Calls applied to a block.
-ghost use Rattle.std.specs.Prelude.{map};
+ghost use Rattle.std.specs.Prelude.{◌≡◌, length, map, is_ok, Decides};
 ghost use Rattle.adders.specs.Rules.{Changed};
 ghost use Rattle.history.specs.Events.{event_of, Step};
 ghost use Rattle.history.specs.Histories.{length_rules, History};
@@ -32,7 +32,8 @@ pub fn apply_all<L: PriceList>(
     calls: &[Call<L>],
     outcomes: &mut [Outcome],
 ) -> Result<Block, Refusal>
-    ensures { Changed (length_rules calls.now outcomes.old) outcomes.old (λ block after. History (map (event_of L.PriceList.adders L.PriceList.muxes) calls.now) after block) result outcomes.new }
+    ensures answer { Changed (length_rules calls.now outcomes.old) outcomes.old (λ block after. History (map (event_of L.PriceList.adders L.PriceList.muxes) calls.now) after block) result outcomes.new }
+    ensures exactly { Decides (is_ok result) (length calls.now ≡ length outcomes.old) }
 {
     if calls.len() != outcomes.len() {
         return Err(Refusal::LengthsDiffer);

@@ -7,7 +7,12 @@ use blocks::Block;
 use chains::Chain;
 use prices::PriceList;
 
-pub fn fuse<L: PriceList>(block: &mut Block, chain: &Chain, code: usize, list: &L) -> Result<u32, Refusal>
+pub fn fuse<L: PriceList>(
+    block: &mut Block,
+    chain: &Chain,
+    code: usize,
+    list: &L,
+) -> Result<u32, Refusal>
     ensures answer { Fusing (tables (L.PriceList.adders list.now) (L.PriceList.muxes list.now)) chain.now code block.old result block.new }
 {
     Err(Refusal::CodeLive)

@@ -13,8 +13,8 @@ loop-i-preserved g c =
     let before = c.loop-i.invariant in
     (before.0, before.1, run_more f c.args.calls.now c.loop-i.outcomes c.loop-i.i c.index-calls-i.result c.apply.result before.0 c.loop-i.block c.apply.new.block (search rules) (search rules) (search rules) before.2 c.apply.ensures)
 
-pub returns : goal.returns
-returns g c =
+pub returns-clause-answer : goal.returns-clause-answer
+returns-clause-answer g c =
     let f = event_of g.L.PriceList.adders g.L.PriceList.muxes in
     let before = c.loop-i.invariant in
     (search rules, every_history before.0 c.loop-i.block _ _ before.1 (run_whole f c.args.calls.now c.loop-i.outcomes c.loop-i.i before.0 c.loop-i.block (search rules) (search rules) before.2))
