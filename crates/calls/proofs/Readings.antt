@@ -22,7 +22,7 @@ use Rattle.calls.specs.declared.call.Call.{Call}
 use Rattle.calls.specs.declared.call.Call.TheVariants.{Found, Fuse}
 use Rattle.calls.specs.declared.call.Unread.{Unread}
 use Rattle.calls.specs.declared.call.Unread.TheVariants.{Unreadable, Refused}
-use Rattle.calls.specs.Form.{Said, Prices, by_count, by_bits, found, fuse, retire, move, chain_line, priced, amount_text, CallLine, SuppliedList, Answer, ByChain, ByUnits, Meant, Answered, Reading}
+use Rattle.calls.specs.Form.{Said, Prices, by_count, by_bits, found, fuse, retire, move, chain_line, priced, amount_text, CallLine, SuppliedList, Answer, ByChain, ByUnits, Meant, AnswerTo, Reading}
 use Rattle.calls.proofs.Lines.{Told}
 
 -- The third byte tells the four kinds of line apart.
@@ -153,13 +153,13 @@ units_told u line call list (Err e) made is = inr (made.0, is)
 
 -- What is read of a line with a chain, and answered of the chain.
 module _ {bs line : List ℕ} {r : Answer} {code n : ℕ} where
-  pub by_found : {width : ℕ} (t : Told (found code width) n bs) → line ≡ chain_line t.after → ByChain line (λ c. Found c code width) r → Answered bs r
+  pub by_found : {width : ℕ} (t : Told (found code width) n bs) → line ≡ chain_line t.after → ByChain line (λ c. Found c code width) r → AnswerTo bs r
   by_found {width} t e is = (found code width t.after, t.line, subst (λ l. ByChain l (λ c. Found c code width) r) e is)
 
-  pub by_fused : (t : Told (fuse code by_count) n bs) → line ≡ chain_line t.after → ByChain line (λ c. Fuse c code (First (record {}))) r → Answered bs r
+  pub by_fused : (t : Told (fuse code by_count) n bs) → line ≡ chain_line t.after → ByChain line (λ c. Fuse c code (First (record {}))) r → AnswerTo bs r
   by_fused t e is = (fuse code by_count t.after, t.line, subst (λ l. ByChain l (λ c. Fuse c code (First (record {}))) r) e is)
 
-  pub by_units : (u : UnitPrices) (t : Told (fuse code (by_bits u)) n bs) → line ≡ chain_line t.after → ByUnits u line (λ list c. Fuse c code (Second list)) r → Answered bs r
+  pub by_units : (u : UnitPrices) (t : Told (fuse code (by_bits u)) n bs) → line ≡ chain_line t.after → ByUnits u line (λ list c. Fuse c code (Second list)) r → AnswerTo bs r
   by_units u t e is = (fuse code (by_bits u) t.after, t.line, subst (λ l. ByUnits u l (λ list c. Fuse c code (Second list)) r) e is)
 
 meant_one : (s : Said) (r q : Answer) → Meant s r → Meant s q → q ≡ r
@@ -174,7 +174,7 @@ told (Ok x) = Ok x
 told (Err e) = Err (Refused e)
 
 module _ (bs : List ℕ) where
-  answered_one : (r q : Answer) → Answered bs r → Answered bs q → q ≡ r
+  answered_one : (r q : Answer) → AnswerTo bs r → AnswerTo bs q → q ≡ r
   answered_one r q a b = meant_one a.0 r q a.2 (subst (λ s. Meant s q) (line_one bs b.0 a.0 b.1 a.1) b.2)
 
   pub reading_one : (r s : Result (Call SuppliedList) Unread) → Reading bs r → Reading bs s → s ≡ r

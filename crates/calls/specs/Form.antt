@@ -96,12 +96,12 @@ Meant (retire code) r = r ≡ Ok (Retire code)
 Meant (move code adder minus amount) r = r ≡ Ok (Move code adder (signed minus amount))
 
 -- what is answered of bytes that say something
-abbrev pub Answered : List ℕ → Answer → Type 0
-Answered bs r = (s : Said) × CallLine s bs × Meant s r
+abbrev pub AnswerTo : List ℕ → Answer → Type 0
+AnswerTo bs r = (s : Said) × CallLine s bs × Meant s r
 
 abbrev pub Reading : List ℕ → Result (Call SuppliedList) Unread → Type 0
-Reading bs (Ok x) = Answered bs (Ok x)
-Reading bs (Err (Refused e)) = Answered bs (Err e)
+Reading bs (Ok x) = AnswerTo bs (Ok x)
+Reading bs (Err (Refused e)) = AnswerTo bs (Err e)
 Reading bs (Err Unreadable) = (s : Said) → CallLine s bs → ⊥
 
 -- The lines with a chain are read apart from those without.

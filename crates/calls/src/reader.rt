@@ -2,7 +2,7 @@
 ghost use Rattle.std.specs.Prelude.{◌≡◌, List, true, false, MatchOption, ℕ};
 ghost use Rattle.forms.specs.Answers.{Only};
 ghost use Rattle.calls.specs.Counts.{Counts, Ends};
-ghost use Rattle.calls.specs.Form.{chain_line, ByChain, ByUnits, Answered, NoLine, Reading};
+ghost use Rattle.calls.specs.Form.{chain_line, ByChain, ByUnits, AnswerTo, NoLine, Reading};
 
 use crate::call::{Call, SuppliedList, Unread};
 use crate::words::{
@@ -56,7 +56,7 @@ fn fuse_by_bits(line: &[u8], code: u32, units: UnitPrices) -> Result<Call<Suppli
 
 // What a line with a chain is answered, `None` where it is no such line.
 fn with_chain(line: &[u8]) -> Option<Result<Call<SuppliedList>, Refusal>>
-    ensures { MatchOption result (NoLine true line.now) (Answered line.now) }
+    ensures { MatchOption result (NoLine true line.now) (AnswerTo line.now) }
 {
     if let Ok((code, (width, after))) = forms::read::<Founding>(line) {
         return Some(found(chain_at(line, after), code, width));
@@ -65,10 +65,8 @@ fn with_chain(line: &[u8]) -> Option<Result<Call<SuppliedList>, Refusal>>
         let list = EitherList::First(CountList);
         return Some(fuse(chain_at(line, after), code, list));
     }
-    if let Ok((code, (adds, (subtracts, (both, (two_to_one, after)))))) = forms::read::<
-        FusingByBits,
-    >(line)
-    {
+    let fusing = forms::read::<FusingByBits>(line);
+    if let Ok((code, (adds, (subtracts, (both, (two_to_one, after)))))) = fusing {
         let units = UnitPrices {
             adds,
             subtracts,
@@ -82,7 +80,7 @@ fn with_chain(line: &[u8]) -> Option<Result<Call<SuppliedList>, Refusal>>
 
 // The call that a line without a chain says, `None` where it is no such line.
 fn without_chain(line: &[u8]) -> Option<Call<SuppliedList>>
-    ensures { MatchOption result (NoLine false line.now) (λ call. Answered line.now (Ok call)) }
+    ensures { MatchOption result (NoLine false line.now) (λ call. AnswerTo line.now (Ok call)) }
 {
     if let Ok(code) = forms::read::<Retiring>(line) {
         let code = code as usize;

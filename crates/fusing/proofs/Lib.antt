@@ -1,1 +1,6 @@
 mod Filling
+mod Sums
+mod Parts
+mod Following
+mod Choosing
+mod Determined

@@ -2,7 +2,7 @@
 --   t        the two tables of a price list
 --   before   the block before, after the block after
 --   p, q     placements of the chain
-use Rattle.std.specs.Prelude.{◌≡◌, ℕ, ◌<◌, ◌≤◌, Bool, true, false, not, ◌⊎◌, List, [], ◌∷◌, ◌++◌, length, is_some, Option, Result, nat_le}
+use Rattle.std.specs.Prelude.{◌≡◌, ℕ, ◌<◌, ◌≤◌, Bool, true, false, not, ◌⊎◌, List, [], ◌∷◌, ◌++◌, length, is_some, None, Option, Result, nat_le}
 use Rattle.adders.specs.declared.refusals.Refusal.{Refusal}
 use Rattle.adders.specs.declared.refusals.Refusal.TheVariants.{CodeLive, BlockTooSmall}
 use Rattle.adders.specs.Rules.{Rule, rule, Changed}
@@ -42,6 +42,12 @@ pub record Fused (t : Tables) (before : Block) (code : ℕ) (chain : Chain) (pri
 -- a code of the sixteen, then one with nothing there, then a chain with no more adders than the block
 abbrev pub fusing_rules : {A : Type 0} → Option A → ℕ → Chain → ℕ → List Rule
 fusing_rules row count chain code = code_rules code ++ rule (not (is_some row)) CodeLive ∷ rule (nat_le (length (chain_adders chain)) count) BlockTooSmall ∷ []
+
+-- there is an idle code of this number, and the block has no fewer adders than the chain
+pub record Fusable (before : Block) (number : ℕ) (chain : Chain) : Type 0 where
+  pub code : number ≤ 15
+  pub idle : row_of before number ≡ None
+  pub enough : length (chain_adders chain) ≤ before.adders
 
 -- What the rules say of one fusing, its answer and the block after it.
 abbrev pub Fusing : Tables → Chain → ℕ → Block → Result ℕ Refusal → Block → Type 0

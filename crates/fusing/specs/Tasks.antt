@@ -2,24 +2,26 @@
 --   uses     how the chain uses adder d + 1, with its sources as they stand in the chain
 --   held     what the live rows have at each adder of the block, adder 1 first
 --   before   where the chain's adders stand that are placed already
-use Rattle.std.specs.Prelude.{◌≡◌, ℕ, ◌+◌, ◌-◌, ◌<◌, Bool, true, false, ◌&&◌, not, List, [], ◌∷◌, length, Some, None, Option, nat_lt, ◌==◌, slice_get, slice_index_or}
+use Rattle.std.specs.Prelude.{◌≡◌, ℕ, ◌+◌, ◌-◌, ◌<◌, ◌≤◌, Bool, true, false, ◌&&◌, not, List, [], length, take, Some, None, Ok, Err, Option, Result, nat_lt, ◌==◌, slice_get, slice_index, slice_index_or}
 use Rattle.std.specs.List.{list_any}
-use Rattle.adders.specs.declared.wiring.Operand.{Operand}
+use Rattle.adders.specs.declared.refusals.Refusal.{Refusal}
 use Rattle.chains.specs.declared.model.Chain.{Chain}
 use Rattle.chains.specs.Chains.{chain_adders}
 use Rattle.rows.specs.declared.model.Row.{Row}
 use Rattle.rows.specs.Rows.{adder_at, RowOf}
 use Rattle.blocks.specs.declared.model.Block.{Block}
+use Rattle.blocks.specs.Blocks.{row_of, Rewritten}
+use Rattle.blocks.specs.Filling.{uses_none_past}
 use Rattle.ports.specs.declared.port.Port.TheVariants.{Output}
 use Rattle.prices.specs.Tables.{Tables}
 use Rattle.rises.specs.declared.held.HeldAdder.{HeldAdder}
-use Rattle.rises.specs.declared.held.HeldPort.{HeldPort}
 use Rattle.rises.specs.declared.held.Way.{Way}
 use Rattle.rises.specs.declared.uses.ValuedAdder.{ValuedAdder}
 use Rattle.rises.specs.declared.uses.ValuedOperand.{ValuedOperand}
-use Rattle.rises.specs.Rises.{adder_of, port_of, way_of, port_with}
+use Rattle.rises.specs.Rises.{adder_of, port_of, way_of}
 use Rattle.rises.specs.Uses.{valued_operand, adder_used}
 use Rattle.fusing.specs.declared.task.Task.{Task}
+use Rattle.fusing.specs.Fusing.{Chosen}
 use Rattle.placing.specs.Placements.{Placement, placed_source, placed_operand}
 
 abbrev pub at : List ℕ → Placement
@@ -74,3 +76,12 @@ pub record TaskOf {L : Type 0} (t : Tables) (b : Block) (chain : Chain) (task : 
   pub output : task.output ≡ valued_operand row row.output
   pub held : HeldOf t b task.held
   pub held_output : task.held_output ≡ port_of b Output
+
+-- whether each adder of the chain is better turned, at these places
+abbrev pub SwapsOf : {L : Type 0} → Tables → Task L → List ℕ → List Bool → Type 0
+SwapsOf t task ps ss = (d : ℕ) → d < length ps → slice_index_or ss d false ≡ swap_of (way_at t task.sample (take d ps) (slice_get task.held (slice_index ps d - 1)) (slice_index_or task.uses d None))
+
+-- the row that is chosen for the chain, at whatever idle code it is put; there is one where the block has adders enough
+abbrev pub ChosenRow : Tables → Block → Chain → Result Row Refusal → Type 0
+ChosenRow t b chain (Ok row) = (uses_none_past b.adders row ≡ true) × (p : Placement) × ((code : ℕ) (after : Block) → code ≤ 15 → row_of b code ≡ None → Rewritten b code (Some row) after → Chosen t b code chain p after)
+ChosenRow t b chain (Err e) = b.adders < length (chain_adders chain)

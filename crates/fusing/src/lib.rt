@@ -1,4 +1,9 @@
 // Fusing: a chain at an idle code of a block, as cheaply as any placement allows.
 #![tactic(auto)]
 
+mod fused;
+mod laws;
 mod task;
+
+pub use fused::fuse;
+pub use laws::fusing_is_determined;

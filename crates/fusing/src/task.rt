@@ -8,6 +8,7 @@ pub mod making;
 pub mod steps;
 
 // A chain and a block, each by what pricing asks of it, and the list of prices.
+#[derive(Drop)]
 pub struct Task<'a, L> {
     list: &'a L,
     sample: u8,

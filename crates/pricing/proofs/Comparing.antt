@@ -94,7 +94,7 @@ module _ (price : AdderTable) (law : LawfulAdders price) where
   kind_more w a b false true true s f g = rw (g refl) (law.both Subtracts w a b)
   kind_more w a b false true false s f g = rw (g refl) (omega arith)
 
-total_grows : (f g : ℕ → ℕ) (n : ℕ) → ((j : ℕ) → f j ≤ g j) → total f n ≤ total g n
+pub total_grows : (f g : ℕ → ℕ) (n : ℕ) → ((j : ℕ) → f j ≤ g j) → total f n ≤ total g n
 total_grows f g zero h = omega arith
 total_grows f g (suc n) h = omega (arith, total_grows f g n h, h (suc n))
 

@@ -4,7 +4,7 @@ ghost use Rattle.std.specs.List.{list_any};
 ghost use Rattle.prices.specs.Tables.{tables};
 ghost use Rattle.rises.specs.Rises.{port_with};
 ghost use Rattle.placing.specs.Placements.{placed_source};
-ghost use Rattle.fusing.specs.Tasks.{at, moved, moved_adder, stands_above, opens_at, way_at, rise_of};
+ghost use Rattle.fusing.specs.Tasks.{at, moved, moved_adder, stands_above, opens_at, way_at, rise_of, swap_of, SwapsOf};
 
 use super::Task;
 use adders::Operand;
@@ -74,6 +74,19 @@ impl<L: PriceList> Task<'_, L> {
         let used = self.next_use(before)?;
         Some(held.way(self.sample, moved_adder(before, used), self.list))
     }
+
+    // Whether each adder is better turned, with all at their places.
+    pub fn swaps(&self, places: ChoiceList) -> [bool; 8]
+        ensures { SwapsOf (tables (L.PriceList.adders self.now.list.now) (L.PriceList.muxes self.now.list.now)) self.now places result }
+    {
+        let places = places.as_slice();
+        let mut swaps = [false; 8];
+        for index in 0..places.len() {
+            let way = self.way(&places[..index], places[index]);
+            swaps[index] = way.is_some_and(|way| way.swapped);
+        }
+        swaps
+    }
 }
 
 impl<L: PriceList> Steps for Task<'_, L> {
@@ -103,10 +116,12 @@ impl<L: PriceList> Steps for Task<'_, L> {
     }
 
     fn rise(&self, before: ChoiceList, choice: u8) -> u32 {
-        self.way(before.as_slice(), choice).map_or(0, |way| way.rise)
+        self.way(before.as_slice(), choice)
+            .map_or(0, |way| way.rise)
     }
 
     fn last(&self, all: ChoiceList) -> u32 {
-        self.held_output.price_with(self.sample, moved(all.as_slice(), self.output), self.list)
+        self.held_output
+            .price_with(self.sample, moved(all.as_slice(), self.output), self.list)
     }
 }

@@ -13,10 +13,10 @@ returns-in-Ok-read c =
     let told = told_by_count c.args.line.now c.in-Ok-read.ensures in
     by_fused told (c.chain_at-in-Ok-read.ensures told.after told.ends told.count) c.fuse.ensures
 
-pub returns-in-Ok-read-2 : goal.returns-in-Ok-read-2
-returns-in-Ok-read-2 c =
-    let told = told_by_bits c.args.line.now _ c.in-Ok-read-2.ensures in
-    by_units _ told (c.chain_at-in-Ok-read-2.ensures told.after told.ends told.count) c.fuse_by_bits.ensures
+pub returns-in-Ok-fusing : goal.returns-in-Ok-fusing
+returns-in-Ok-fusing c =
+    let told = told_by_bits c.args.line.now _ c.in-Ok-fusing.ensures in
+    by_units _ told (c.chain_at-in-Ok-fusing.ensures told.after told.ends told.count) c.fuse_by_bits.ensures
 
 pub returns : goal.returns
-returns c = none_with c.args.line.now c.in_default.ensures.broken c.in_default-read.ensures.broken c.in_default-read-2.ensures.broken
+returns c = none_with c.args.line.now c.in_default.ensures.broken c.in_default-read.ensures.broken c.in_default-fusing.ensures.broken

@@ -1,4 +1,4 @@
-use Rattle.std.proofs.Common.{rules, sym, ◌∙◌}
+use Rattle.std.proofs.Common.{rules}
 use Rattle.fusing.proofs.task.Task.new.Goals as goal
 
 pub returns-clause-task : goal.returns-clause-task

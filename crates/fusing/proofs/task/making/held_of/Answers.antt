@@ -1,4 +1,4 @@
-use Rattle.std.proofs.Common.{rules, ◌+◌, arith}
+use Rattle.std.proofs.Common.{rules, ◌+◌}
 use Rattle.prices.specs.Tables.{tables}
 use Rattle.rises.specs.Rises.{adder_of}
 use Rattle.fusing.proofs.Filling.{got_more}

@@ -1,4 +1,4 @@
-use Rattle.std.proofs.Common.{rules, None, ◌+◌, arith}
+use Rattle.std.proofs.Common.{None, ◌+◌, arith}
 use Rattle.std.proofs.lemmas.List.{length-set}
 use Rattle.rows.specs.Rows.{adder_at}
 use Rattle.rises.specs.Uses.{adder_used}

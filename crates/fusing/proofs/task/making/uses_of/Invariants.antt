@@ -1,4 +1,4 @@
-use Rattle.std.proofs.Common.{◌≡◌, ℕ, ◌+◌, ◌<◌, ◌≤◌, None, length, slice_index_or}
+use Rattle.std.proofs.Common.{◌≡◌, ℕ, ◌+◌, ◌<◌, None, length, slice_index_or}
 use Rattle.rows.specs.Rows.{adder_at}
 use Rattle.rises.specs.Uses.{adder_used}
 use Rattle.fusing.proofs.task.making.uses_of.Given as goal
