@@ -1,17 +1,15 @@
 -- What is left after a list of calls, its sheet and the runs.
-use Rattle.std.proofs.Common.{◌≡◌, ℕ, List, take, Ok, Option, Result, sym, ap, ◌∙◌, subst}
+use Rattle.std.proofs.Common.{ℕ, List, take, Ok, Result, ap, ◌∙◌, subst}
 use Rattle.adders.specs.declared.refusals.Refusal.{Refusal}
 use Rattle.arith.specs.Operations.{Operations}
 use Rattle.blocks.specs.declared.model.Block.{Block}
 use Rattle.blocks.specs.Blocks.{constant_at}
-use Rattle.blocks.specs.Books.{empty_book}
 use Rattle.blocks.specs.Runs.{RunAt, RunAllAt}
 use Rattle.sheetlaws.specs.Sheets.{IsSheet}
 use Rattle.sheets.specs.Calls.{written_sheet, ReadOver, ReadsBack}
 use Rattle.writing.specs.Writes.{Written}
 use Rattle.history.specs.declared.outcome.Outcome.{Outcome}
 use Rattle.history.specs.Events.{Event}
-use Rattle.history.specs.Books.{book}
 use Rattle.history.specs.Histories.{History}
 use Rattle.history.specs.Replays.{Lent, lent, Replay}
 

@@ -5,10 +5,10 @@ ghost use Rattle.history.specs.Events.{event_of, Step};
 ghost use Rattle.history.specs.Histories.{length_rules, History};
 
 use crate::outcome::Outcome;
-use crate::standin::fuse;
 use adders::Refusal;
 use blocks::Block;
 use calls::Call;
+use fusing::fuse;
 use prices::PriceList;
 
 // Makes one call.

@@ -5,7 +5,6 @@ mod applying;
 mod laws;
 mod outcome;
 mod replaying;
-mod standin;
 
 pub use applying::{apply, apply_all};
 pub use laws::{events_follow_the_book, every_history_holds};

@@ -1,4 +1,4 @@
-use Rattle.std.proofs.Common.{◌≡◌, ◌<◌, ◌≤◌, length, sym, rules, arith}
+use Rattle.std.proofs.Common.{rules}
 use Rattle.history.specs.Events.{event_of}
 use Rattle.history.specs.Histories.{rests}
 use Rattle.history.proofs.Histories.{every_history, run_more, run_whole}

@@ -1,4 +1,4 @@
-use Rattle.std.proofs.Common.{map, rules, subst, take}
+use Rattle.std.proofs.Common.{map, rules}
 use Rattle.history.specs.Events.{event_of}
 use Rattle.history.specs.Replays.{lent}
 use Rattle.history.proofs.Replays.{replayed}
