@@ -3,3 +3,4 @@ pub mod Breaking
 pub mod Digits
 pub mod Keys
 pub mod Parts
+pub mod Lines

@@ -3,12 +3,14 @@
 
 mod digit;
 mod error;
+mod first;
 mod keyed;
 mod parted;
 mod scanner;
 
 pub use digit::Digit;
 pub use error::FormError;
+pub use first::first_line;
 pub use keyed::{Key, Keyed};
 pub use parted::{Parted, Word};
 pub use scanner::{Scanner, read};

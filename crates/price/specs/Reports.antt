@@ -8,6 +8,7 @@ use Rattle.adders.specs.declared.refusals.LineRefusal.{LineRefusal}
 use Rattle.adders.specs.Refusals.{refusal_entry, line_refusal_text}
 use Rattle.adders.specs.Rules.{first_broken}
 use Rattle.forms.specs.Breaking.{BrokenAt}
+use Rattle.forms.specs.Lines.{FirstLine}
 use Rattle.blocks.specs.declared.model.Block.{Block}
 use Rattle.prices.specs.declared.per_bit.PerBitList.{PerBitList}
 use Rattle.prices.specs.declared.per_bit.UnitPrices.{UnitPrices}
@@ -19,16 +20,6 @@ use Rattle.sheetlaws.specs.Refusing.{Refused}
 use Rattle.pricing.specs.Prices.{block_price}
 use Rattle.price.specs.declared.report.Bill.{Bill}
 use Rattle.price.specs.Parts.{parts_text}
-
--- no byte is a line feed, which is the byte 10
-abbrev pub NoLineFeed : List ℕ → Type 0
-NoLineFeed [] = Unit {0}
-NoLineFeed (b ∷ bs) = (b ≡ 10 → ⊥) × NoLineFeed bs
-
--- up to the first line feed, or all where there is none
-pub record FirstLine (input line sheet : List ℕ) : Type 0 where
-  pub one_line : NoLineFeed line
-  pub whole : (input ≡ line ++ 10 ∷ sheet) ⊎ ((input ≡ line) × (sheet ≡ []))
 
 -- the unit prices of a line break its form, or are none of a list
 pub data UnitsRefused (line : List ℕ) : Refusal → Type 0 where

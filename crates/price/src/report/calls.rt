@@ -1,27 +1,16 @@
 // Reading the input, and printing what it is answered.
 ghost use Rattle.std.specs.Prelude.{◌≡◌, Some};
-ghost use Rattle.price.specs.Reports.{FirstLine, ListOf, BlockOf, input_line, Priced, bill_text, report_text};
+ghost use Rattle.price.specs.Reports.{ListOf, BlockOf, input_line, Priced, bill_text, report_text};
 
 use super::{Bill, Report};
 use crate::parts::PartsReport;
 use adders::{LineRefusal, Refusal};
 use blocks::Block;
+use forms::first_line;
 use prices::{CountList, PerBitList};
 use pricing::price;
 use std::{fmt, io};
 use units::read_units;
-
-// The first line without its line feed, and what follows it.
-fn first_line(input: &[u8]) -> (&[u8], &[u8])
-    ensures { FirstLine input.now result.0.now result.1.now }
-{
-    for (place, byte) in input.iter().enumerate() {
-        if *byte == b'\n' {
-            return (&input[..place], &input[place + 1..]);
-        }
-    }
-    (input, &[])
-}
 
 // The list of the unit prices that a line says.
 fn list_of(line: &[u8]) -> Result<PerBitList, Refusal>
