@@ -3,6 +3,5 @@ pub mod Books
 pub mod Founding
 pub mod Runs
 pub mod Same
-pub mod Examples
 pub mod Movable
 pub mod Fills

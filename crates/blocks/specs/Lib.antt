@@ -3,5 +3,4 @@ pub mod Blocks
 pub mod Calls
 pub mod Books
 pub mod Runs
-pub mod Examples
 pub mod Filling

@@ -3,8 +3,6 @@
 
 mod laws;
 mod model;
-mod worked;
 
 pub use laws::{a_block_is_what_it_has, constants_decide_answers, steps_follow_the_book};
 pub use model::Block;
-pub use worked::worked_moves_stand;

@@ -1,3 +1,2 @@
 pub mod Rules
 pub mod Chains
-pub mod Examples

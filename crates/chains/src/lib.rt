@@ -3,7 +3,5 @@
 
 mod model;
 mod rules;
-mod worked;
 
 pub use model::Chain;
-pub use worked::worked_lines_stand;

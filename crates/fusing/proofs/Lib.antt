@@ -3,4 +3,4 @@ mod Sums
 mod Parts
 mod Following
 mod Choosing
-mod Determined
+pub mod Determined

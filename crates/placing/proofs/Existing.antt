@@ -9,17 +9,15 @@ use Rattle.placing.proofs.Standing.{nth_within, nth_lower}
 use Rattle.placing.proofs.Laid.{place_one}
 
 -- n numbers from j on
-numbers : ℕ → ℕ → List ℕ
+abbrev pub numbers : ℕ → ℕ → List ℕ
 numbers j zero = []
 numbers j (suc n) = j ∷ numbers (suc j) n
 
 length_numbers : (j n : ℕ) → length (numbers j n) ≡ n
-unfolding numbers
 length_numbers j zero = refl
 length_numbers j (suc n) = ap suc (length_numbers (suc j) n)
 
 number_at : (j n d : ℕ) → d < n → get_or (numbers j n) d 0 ≡ j + d
-unfolding numbers
 number_at j zero d h = absurd (omega arith)
 number_at j (suc n) zero h = omega arith
 number_at j (suc n) (suc d) h = number_at (suc j) n d (omega arith) ∙ (let e : suc j + d ≡ j + suc d = omega arith in e)
@@ -29,27 +27,30 @@ false_at zero d = refl
 false_at (suc n) zero = refl
 false_at (suc n) (suc d) = false_at n d
 
--- each adder at its own number, none swapped
-pub at_own_numbers : (count : ℕ) (chain : Chain) → length (chain_adders chain) ≤ count → (p : Placement) × Admissible count chain p
-at_own_numbers count chain enough =
+-- each of n adders at its own number, none swapped
+abbrev pub own_numbers : ℕ → Placement
+own_numbers n = record { places = numbers 1 n; swaps = replicate n false }
+
+pub own_admissible : (count : ℕ) (chain : Chain) → length (chain_adders chain) ≤ count → Admissible count chain (own_numbers (length (chain_adders chain)))
+own_admissible count chain enough =
     let n = length (chain_adders chain) in
-    let p : Placement = record { places = numbers 1 n; swaps = replicate n false } in
     let whole = length_numbers 1 n in
-    let own : (d : ℕ) → d < n → place p d ≡ 1 + d = λ d h. number_at 1 n d h in (
-      p,
-      record {
-        each_placed = whole;
-        each_told = length-replicate n false;
-        inside = λ d h. let e = own d (omega arith) in (omega arith, omega arith);
-        apart = λ c d less h e. let i = own c (omega arith) in let k = own d (omega arith) in omega arith;
-        fed = λ c d a e has.
-            let h = nth_within chain d a e in
-            let low = nth_lower chain d a e in
-            let below : suc c ≤ d = ⊎_elim (λ l. omega (arith, low.0)) (λ r. omega (arith, low.1)) has in
-            let i = own c (omega arith) in let k = own d (omega arith) in omega arith;
-        kept = λ d a e m. false_at n d;
-      },
-    )
+    let own : (d : ℕ) → d < n → place (own_numbers n) d ≡ 1 + d = λ d h. number_at 1 n d h in
+    record {
+      each_placed = whole;
+      each_told = length-replicate n false;
+      inside = λ d h. let e = own d (omega arith) in (omega arith, omega arith);
+      apart = λ c d less h e. let i = own c (omega arith) in let k = own d (omega arith) in omega arith;
+      fed = λ c d a e has.
+          let h = nth_within chain d a e in
+          let low = nth_lower chain d a e in
+          let below : suc c ≤ d = ⊎_elim (λ l. omega (arith, low.0)) (λ r. omega (arith, low.1)) has in
+          let i = own c (omega arith) in let k = own d (omega arith) in omega arith;
+      kept = λ d a e m. false_at n d;
+    }
+
+pub at_own_numbers : (count : ℕ) (chain : Chain) → length (chain_adders chain) ≤ count → (p : Placement) × Admissible count chain p
+at_own_numbers count chain enough = (own_numbers (length (chain_adders chain)), own_admissible count chain enough)
 
 -- Different numbers from 1 to a bound: the last takes the place of the one that has the bound itself.
 module _ (bound n : ℕ) (f : ℕ → ℕ) (inside : (d : ℕ) → d < suc n → (1 ≤ f d) × (f d ≤ suc bound)) (one : (c d : ℕ) → c < suc n → d < suc n → f c ≡ f d → c ≡ d) where

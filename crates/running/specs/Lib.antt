@@ -1,4 +1,3 @@
 pub mod Results
 pub mod Steps
 pub mod Buffers
-pub mod Examples

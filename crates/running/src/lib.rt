@@ -3,7 +3,5 @@
 
 mod results;
 mod runner;
-mod worked;
 
 pub use runner::{run, run_all};
-pub use worked::worked_samples_stand;

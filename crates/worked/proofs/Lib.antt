@@ -1,0 +1,7 @@
+mod Lines
+mod Pairs
+mod Running
+mod Building
+mod OneAdder
+mod TwoAdders
+mod List

@@ -1,0 +1,3 @@
+pub mod Lines
+pub mod Blocks
+pub mod Cases
