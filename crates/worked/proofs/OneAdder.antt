@@ -1,5 +1,5 @@
 -- The worked block of one adder.
-use Rattle.std.proofs.Common.{◌≡◌, ℕ, zero, suc, ◌<◌, ◌≤◌, Bool, true, false, List, [], ◌∷◌, length, get_or, Some, None, sym, refl, ap, subst, lit≤, pos, codes, arith}
+use Rattle.std.proofs.Common.{◌≡◌, ℕ, ◌<◌, ◌≤◌, Bool, true, false, List, [], ◌∷◌, length, get_or, sym, refl, ap, subst, lit≤, pos, codes, arith}
 use Rattle.std.specs.List.{AllByRecursion}
 use Rattle.adders.specs.declared.wiring.Adder.{Adder}
 use Rattle.adders.specs.declared.wiring.Sign.TheVariants.{Plus}
@@ -20,8 +20,8 @@ use Rattle.placing.specs.Slots.{at_places, placed_slots, placed_output}
 use Rattle.worked.specs.Blocks.{Fact, count, costs, shows, multiplies, Holds, Built, TwoRows}
 use Rattle.worked.specs.Cases.{six_and_ten, Stands}
 use Rattle.worked.proofs.Lines.{chain, is_read}
-use Rattle.worked.proofs.Pairs.{laid, alone, pair, is_left, moved}
-use Rattle.worked.proofs.Building.{facts_of, built, has_rows, one}
+use Rattle.worked.proofs.Pairs.{laid, alone, pair, moved}
+use Rattle.worked.proofs.Building.{facts_of, no_cheaper, built, has_rows, one}
 
 abbrev pub add : (i s j t : ℕ) → Adder
 add i s j t = record { left = record { source = i; shift = s }; sign = Plus; right = record { source = j; shift = t } }
@@ -71,13 +71,13 @@ module _ (w : ℕ) (some : 1 ≤ w) (most : w ≤ 32) where
   unfolding port_price adder_price precedes
   price_left = refl
 
-  dearer : (s : Bool) (q : Placement) (other : Block) → at s ≡ q → Admissible 1 second q → Placed before 1 second q other → 2 ≤ block_price count_list other
+  dearer : (s : Bool) (q : Placement) → at s ≡ q → (other : Block) → Admissible 1 second q → Placed before 1 second q other → 2 ≤ block_price count_list other
   unfolding port_price adder_price precedes
-  dearer false q other e adm p = subst (λ b. 2 ≤ block_price count_list b) (sym (is_left 1 w (lit≤ tt) some most row refl (placed_at false) refl second q adm (ap (λ x. placed_slots x (chain_adders second)) e) (ap (λ x. placed_output x second) e) other p)) (lit≤ tt)
-  dearer true q other e adm p = subst (λ b. 2 ≤ block_price count_list b) (sym (is_left 1 w (lit≤ tt) some most row refl (placed_at true) refl second q adm (ap (λ x. placed_slots x (chain_adders second)) e) (ap (λ x. placed_output x second) e) other p)) (lit≤ tt)
+  dearer false q = no_cheaper 1 w (lit≤ tt) some most row refl (placed_at false) refl second 2 (lit≤ tt) (at false) q refl refl
+  dearer true q = no_cheaper 1 w (lit≤ tt) some most row refl (placed_at true) refl second 2 (lit≤ tt) (at true) q refl refl
 
   least : (q : Placement) (other : Block) → Admissible 1 second q → Placed before 1 second q other → block_price count_list left ≤ block_price count_list other
-  least q other adm p = let f = forced q adm in subst (λ n. n ≤ block_price count_list other) (sym price_left) (dearer f.0 q other (sym f.1) adm p)
+  least q other adm p = let f = forced q adm in subst (λ n. n ≤ block_price count_list other) (sym price_left) (dearer f.0 q (sym f.1) other adm p)
 
   places : (q : Placement) → Admissible 1 second q → q.places ≡ (1 ∷ [])
   places q adm = ap (λ x. x.places) (forced q adm).1
