@@ -60,7 +60,7 @@ module _ (a w : ℕ) (few : a ≤ 8) (some : 1 ≤ w) (most : w ≤ 32) (r : Row
   module _ (enough : length (chain_adders second) ≤ a) (slots : s.slots ≡ placed_slots p (chain_adders second)) (output : s.output ≡ placed_output p second)
       (forced : (q : Placement) → Admissible a second q → q.places ≡ p.places)
       (least : (q : Placement) (other : Block) → Admissible a second q → Placed before 1 second q other → block_price count_list left ≤ block_price count_list other) where
-    pub chosen : Chosen count_list before 1 second p left
+    chosen : Chosen count_list before 1 second p left
     chosen = record {
       admissible = own_admissible a second enough;
       placed = placed a w few some most r fits_r s fits_s second p (own_admissible a second enough) slots output;

@@ -26,10 +26,10 @@ use Rattle.worked.proofs.Building.{facts_of, no_cheaper, built, has_rows, one}
 abbrev pub add : (i s j t : ℕ) → Adder
 add i s j t = record { left = record { source = i; shift = s }; sign = Plus; right = record { source = j; shift = t } }
 
-abbrev pub first : Chain
+abbrev first : Chain
 first = chain (add 0 1 0 2 ∷ []) 0 refl
 
-abbrev pub second : Chain
+abbrev second : Chain
 second = chain (add 0 0 0 2 ∷ []) 1 refl
 
 -- the second once it is moved
@@ -39,10 +39,10 @@ third = chain (add 0 1 0 3 ∷ []) 0 refl
 abbrev at : Bool → Placement
 at s = at_places (1 ∷ []) (s ∷ [])
 
-abbrev pub row : Row
+abbrev row : Row
 row = laid (eight_slots (chain_adders first)) (record { source = 1; shift = 0 }) refl refl
 
-abbrev pub placed_at : Bool → Row
+abbrev placed_at : Bool → Row
 placed_at false = laid (placed_slots (at false) (chain_adders second)) (placed_output (at false) second) refl refl
 placed_at true = laid (placed_slots (at true) (chain_adders second)) (placed_output (at true) second) refl refl
 
@@ -61,13 +61,13 @@ module _ (w : ℕ) (some : 1 ≤ w) (most : w ≤ 32) where
   abbrev before : Block
   before = alone 1 w (lit≤ tt) some most row refl
 
-  abbrev pub with_row : (s : Row) → uses_none_past 1 s ≡ true → Block
+  abbrev with_row : (s : Row) → uses_none_past 1 s ≡ true → Block
   with_row s h = pair 1 w (lit≤ tt) some most row refl s h
 
-  abbrev pub left : Block
+  abbrev left : Block
   left = with_row (placed_at false) refl
 
-  pub price_left : block_price count_list left ≡ 2
+  price_left : block_price count_list left ≡ 2
   unfolding port_price adder_price precedes
   price_left = refl
 
