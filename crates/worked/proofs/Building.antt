@@ -1,6 +1,6 @@
 -- What is built of two chains, where the second can only be placed at its own numbers, swapped or not.
 --   p    the placement at its own numbers with nothing swapped
-use Rattle.std.proofs.Common.{◌≡◌, ℕ, zero, suc, ◌<◌, ◌≤◌, Bool, true, false, List, [], ◌∷◌, length, replicate, Some, None, sym, refl, ap, ◌∙◌, subst, inl, inr, arith}
+use Rattle.std.proofs.Common.{◌≡◌, ℕ, zero, suc, ◌≤◌, Bool, true, false, List, [], ◌∷◌, length, replicate, Some, None, sym, refl, ap, ◌∙◌, subst, inl, inr, arith}
 use Rattle.std.proofs.lemmas.Bool.{false≢true}
 use Rattle.adders.specs.Rules.{first_broken}
 use Rattle.chains.specs.declared.model.Chain.{Chain}
@@ -20,7 +20,7 @@ use Rattle.fusing.specs.Fusing.{Unswapped, Before, Chosen, Fused, fusing_rules}
 use Rattle.fusing.proofs.Determined.{determined}
 use Rattle.worked.specs.Blocks.{Fact, Built, TwoRows}
 use Rattle.worked.specs.Cases.{Case, block}
-use Rattle.worked.proofs.Pairs.{alone, elsewhere, is_alone, pair, none_else, is_pair, placed}
+use Rattle.worked.proofs.Pairs.{alone, elsewhere, is_alone, pair, none_else, is_pair, placed, is_left}
 
 abbrev pub facts_of : Case → List Fact
 facts_of (block lines facts) = facts
@@ -48,13 +48,19 @@ module _ (a w : ℕ) (few : a ≤ 8) (some : 1 ≤ w) (most : w ≤ 32) (r : Row
   abbrev left : Block
   left = pair a w few some most r fits_r s fits_s
 
+  -- wherever the chain stands so that its row is this one
+  pub no_cheaper : (n : ℕ) → n ≤ block_price count_list left → (c q : Placement) → s.slots ≡ placed_slots c (chain_adders second) → s.output ≡ placed_output c second → c ≡ q → (other : Block) → Admissible a second q → Placed before 1 second q other → n ≤ block_price count_list other
+  no_cheaper n h c q slots output e other adm of =
+      subst (λ b. n ≤ block_price count_list b)
+      (sym (is_left a w few some most r fits_r s fits_s second q adm (slots ∙ ap (λ x. placed_slots x (chain_adders second)) e) (output ∙ ap (λ x. placed_output x second) e) other of)) h
+
   abbrev p : Placement
   p = own_numbers (length (chain_adders second))
 
   module _ (enough : length (chain_adders second) ≤ a) (slots : s.slots ≡ placed_slots p (chain_adders second)) (output : s.output ≡ placed_output p second)
       (forced : (q : Placement) → Admissible a second q → q.places ≡ p.places)
       (least : (q : Placement) (other : Block) → Admissible a second q → Placed before 1 second q other → block_price count_list left ≤ block_price count_list other) where
-    pub chosen : Chosen count_list before 1 second p left
+    chosen : Chosen count_list before 1 second p left
     chosen = record {
       admissible = own_admissible a second enough;
       placed = placed a w few some most r fits_r s fits_s second p (own_admissible a second enough) slots output;

@@ -1,5 +1,5 @@
 -- hm
-use Rattle.std.proofs.Common.{refl, arith, ℤ, pos}
+use Rattle.std.proofs.Common.{refl, arith}
 use Rattle.std.proofs.lemmas.Int.{ints}
 use Rattle.std.specs.List.{AllByRecursion}
 use Rattle.worked.specs.Cases.{Stands, worked}

@@ -1,5 +1,5 @@
 -- The worked block of one adder.
-use Rattle.std.proofs.Common.{◌≡◌, ℕ, zero, suc, ◌<◌, ◌≤◌, Bool, true, false, List, [], ◌∷◌, length, get_or, Some, None, sym, refl, ap, subst, lit≤, pos, codes, arith}
+use Rattle.std.proofs.Common.{◌≡◌, ℕ, ◌<◌, ◌≤◌, Bool, true, false, List, [], ◌∷◌, length, get_or, sym, refl, ap, subst, lit≤, pos, codes, arith}
 use Rattle.std.specs.List.{AllByRecursion}
 use Rattle.adders.specs.declared.wiring.Adder.{Adder}
 use Rattle.adders.specs.declared.wiring.Sign.TheVariants.{Plus}
@@ -20,16 +20,16 @@ use Rattle.placing.specs.Slots.{at_places, placed_slots, placed_output}
 use Rattle.worked.specs.Blocks.{Fact, count, costs, shows, multiplies, Holds, Built, TwoRows}
 use Rattle.worked.specs.Cases.{six_and_ten, Stands}
 use Rattle.worked.proofs.Lines.{chain, is_read}
-use Rattle.worked.proofs.Pairs.{laid, alone, pair, is_left, moved}
-use Rattle.worked.proofs.Building.{facts_of, built, has_rows, one}
+use Rattle.worked.proofs.Pairs.{laid, alone, pair, moved}
+use Rattle.worked.proofs.Building.{facts_of, no_cheaper, built, has_rows, one}
 
 abbrev pub add : (i s j t : ℕ) → Adder
 add i s j t = record { left = record { source = i; shift = s }; sign = Plus; right = record { source = j; shift = t } }
 
-abbrev pub first : Chain
+abbrev first : Chain
 first = chain (add 0 1 0 2 ∷ []) 0 refl
 
-abbrev pub second : Chain
+abbrev second : Chain
 second = chain (add 0 0 0 2 ∷ []) 1 refl
 
 -- the second once it is moved
@@ -39,10 +39,10 @@ third = chain (add 0 1 0 3 ∷ []) 0 refl
 abbrev at : Bool → Placement
 at s = at_places (1 ∷ []) (s ∷ [])
 
-abbrev pub row : Row
+abbrev row : Row
 row = laid (eight_slots (chain_adders first)) (record { source = 1; shift = 0 }) refl refl
 
-abbrev pub placed_at : Bool → Row
+abbrev placed_at : Bool → Row
 placed_at false = laid (placed_slots (at false) (chain_adders second)) (placed_output (at false) second) refl refl
 placed_at true = laid (placed_slots (at true) (chain_adders second)) (placed_output (at true) second) refl refl
 
@@ -61,23 +61,23 @@ module _ (w : ℕ) (some : 1 ≤ w) (most : w ≤ 32) where
   abbrev before : Block
   before = alone 1 w (lit≤ tt) some most row refl
 
-  abbrev pub with_row : (s : Row) → uses_none_past 1 s ≡ true → Block
+  abbrev with_row : (s : Row) → uses_none_past 1 s ≡ true → Block
   with_row s h = pair 1 w (lit≤ tt) some most row refl s h
 
-  abbrev pub left : Block
+  abbrev left : Block
   left = with_row (placed_at false) refl
 
-  pub price_left : block_price count_list left ≡ 2
+  price_left : block_price count_list left ≡ 2
   unfolding port_price adder_price precedes
   price_left = refl
 
-  dearer : (s : Bool) (q : Placement) (other : Block) → at s ≡ q → Admissible 1 second q → Placed before 1 second q other → 2 ≤ block_price count_list other
+  dearer : (s : Bool) (q : Placement) → at s ≡ q → (other : Block) → Admissible 1 second q → Placed before 1 second q other → 2 ≤ block_price count_list other
   unfolding port_price adder_price precedes
-  dearer false q other e adm p = subst (λ b. 2 ≤ block_price count_list b) (sym (is_left 1 w (lit≤ tt) some most row refl (placed_at false) refl second q adm (ap (λ x. placed_slots x (chain_adders second)) e) (ap (λ x. placed_output x second) e) other p)) (lit≤ tt)
-  dearer true q other e adm p = subst (λ b. 2 ≤ block_price count_list b) (sym (is_left 1 w (lit≤ tt) some most row refl (placed_at true) refl second q adm (ap (λ x. placed_slots x (chain_adders second)) e) (ap (λ x. placed_output x second) e) other p)) (lit≤ tt)
+  dearer false q = no_cheaper 1 w (lit≤ tt) some most row refl (placed_at false) refl second 2 (lit≤ tt) (at false) q refl refl
+  dearer true q = no_cheaper 1 w (lit≤ tt) some most row refl (placed_at true) refl second 2 (lit≤ tt) (at true) q refl refl
 
   least : (q : Placement) (other : Block) → Admissible 1 second q → Placed before 1 second q other → block_price count_list left ≤ block_price count_list other
-  least q other adm p = let f = forced q adm in subst (λ n. n ≤ block_price count_list other) (sym price_left) (dearer f.0 q other (sym f.1) adm p)
+  least q other adm p = let f = forced q adm in subst (λ n. n ≤ block_price count_list other) (sym price_left) (dearer f.0 q (sym f.1) other adm p)
 
   places : (q : Placement) → Admissible 1 second q → q.places ≡ (1 ∷ [])
   places q adm = ap (λ x. x.places) (forced q adm).1

@@ -1,7 +1,7 @@
 -- A block with a row at code 0 and another at code 1, and that what is built of two chains is such a block.
 --   a, w    its adders, its width
 --   r, s    the rows
-use Rattle.std.proofs.Common.{◌≡◌, ℕ, ◌<◌, ◌≤◌, ◌≢◌, true, false, List, [], ◌∷◌, length, replicate, is_some, Some, None, Ok, Option, sym, refl, ap, ◌∙◌, subst, ⊎_elim, lit≤, ℤ}
+use Rattle.std.proofs.Common.{◌≡◌, ℕ, ◌<◌, ◌≤◌, ◌≢◌, true, false, length, replicate, is_some, Some, None, Ok, Option, sym, refl, ap, ◌∙◌, subst, ⊎_elim, lit≤, ℤ}
 use Rattle.std.proofs.lemmas.Bool.{cases_eq}
 use Rattle.adders.specs.declared.wiring.Operand.{Operand}
 use Rattle.adders.specs.Values.{Slots}
@@ -21,7 +21,7 @@ use Rattle.blocks.specs.Blocks.{row_of, Rewritten}
 use Rattle.blocks.specs.Calls.{Moved}
 use Rattle.blocks.specs.Uses.{row_uses, uses}
 use Rattle.blocks.specs.Filling.{uses_none_past}
-use Rattle.blocks.proofs.Placing.{written, others_stay, at_each}
+use Rattle.blocks.proofs.Placing.{others_stay, at_each}
 use Rattle.blocks.proofs.Founding.{all_idle}
 use Rattle.blocks.proofs.Fills.{fits}
 use Rattle.blocks.proofs.Same.{all_that_a_block_has}

@@ -1,5 +1,5 @@
 -- The worked block of two adders.
-use Rattle.std.proofs.Common.{◌≡◌, ℕ, zero, suc, ◌<◌, ◌≤◌, Bool, true, false, List, [], ◌∷◌, length, get_or, sym, refl, ap, ◌∙◌, subst, inl, lit≤, codes, negsuc, arith}
+use Rattle.std.proofs.Common.{◌≡◌, ℕ, ◌<◌, ◌≤◌, Bool, true, false, List, [], ◌∷◌, length, get_or, sym, refl, ap, subst, inl, lit≤, arith}
 use Rattle.std.proofs.lemmas.Int.{ints}
 use Rattle.std.specs.List.{AllByRecursion}
 use Rattle.chains.specs.declared.model.Chain.{Chain}
@@ -8,8 +8,6 @@ use Rattle.chains.specs.Rules.{eight_slots}
 use Rattle.rows.specs.declared.model.Row.{Row}
 use Rattle.rows.specs.Rows.{RowOf}
 use Rattle.blocks.specs.declared.model.Block.{Block}
-use Rattle.blocks.specs.Calls.{retiring, Done}
-use Rattle.blocks.specs.Filling.{uses_none_past}
 use Rattle.ports.specs.Inputs.{precedes}
 use Rattle.bits.specs.Bits.{bits}
 use Rattle.depths.specs.Depths.{block_depth, adder_depth}
@@ -18,12 +16,12 @@ use Rattle.prices.specs.Supplied.{count_list, per_bit_list}
 use Rattle.pricing.specs.Prices.{block_price, port_price, adder_price}
 use Rattle.placing.specs.Placements.{Placement, Admissible, Placed}
 use Rattle.placing.specs.Slots.{at_places, placed_slots, placed_output}
-use Rattle.worked.specs.Blocks.{Fact, units, costs, Costs, Holds, Built, TwoRows}
+use Rattle.worked.specs.Blocks.{units, Costs, Holds, Built, TwoRows}
 use Rattle.worked.specs.Cases.{forty_five_and_nineteen, Stands}
 use Rattle.worked.proofs.Lines.{chain, is_read, whole}
-use Rattle.worked.proofs.Pairs.{laid, alone, pair, is_left, retired}
+use Rattle.worked.proofs.Pairs.{laid, alone, pair, retired}
 use Rattle.worked.proofs.Running.{runs_word, runs_mod_255}
-use Rattle.worked.proofs.Building.{facts_of, built, has_rows, one}
+use Rattle.worked.proofs.Building.{facts_of, no_cheaper, built, has_rows, one}
 use Rattle.worked.proofs.OneAdder.{add}
 
 abbrev first : Chain
@@ -72,23 +70,15 @@ price_left : block_price count_list left ≡ 2
 unfolding port_price adder_price precedes
 price_left = refl
 
--- at a placement whose row leaves a block of at least this price
-cheap : (s t : Bool) (fits : uses_none_past 2 (placed_at s t) ≡ true) → ((placed_at s t).slots ≡ placed_slots (at s t) (chain_adders second)) → ((placed_at s t).output ≡ placed_output (at s t) second)
-    → 2 ≤ block_price count_list (pair 2 16 (lit≤ tt) (lit≤ tt) (lit≤ tt) row refl (placed_at s t) fits)
-    → (q : Placement) (other : Block) → at s t ≡ q → Admissible 2 second q → Placed before 1 second q other → 2 ≤ block_price count_list other
-cheap s t fits slots output h q other e adm p =
-    subst (λ b. 2 ≤ block_price count_list b)
-    (sym (is_left 2 16 (lit≤ tt) (lit≤ tt) (lit≤ tt) row refl (placed_at s t) fits second q adm (slots ∙ ap (λ x. placed_slots x (chain_adders second)) e) (output ∙ ap (λ x. placed_output x second) e) other p)) h
-
-dearer : (s t : Bool) (q : Placement) (other : Block) → at s t ≡ q → Admissible 2 second q → Placed before 1 second q other → 2 ≤ block_price count_list other
+dearer : (s t : Bool) (q : Placement) → at s t ≡ q → (other : Block) → Admissible 2 second q → Placed before 1 second q other → 2 ≤ block_price count_list other
 unfolding port_price adder_price precedes
-dearer false false = cheap false false refl refl refl (lit≤ tt)
-dearer false true = cheap false true refl refl refl (lit≤ tt)
-dearer true false = cheap true false refl refl refl (lit≤ tt)
-dearer true true = cheap true true refl refl refl (lit≤ tt)
+dearer false false q = no_cheaper 2 16 (lit≤ tt) (lit≤ tt) (lit≤ tt) row refl (placed_at false false) refl second 2 (lit≤ tt) (at false false) q refl refl
+dearer false true q = no_cheaper 2 16 (lit≤ tt) (lit≤ tt) (lit≤ tt) row refl (placed_at false true) refl second 2 (lit≤ tt) (at false true) q refl refl
+dearer true false q = no_cheaper 2 16 (lit≤ tt) (lit≤ tt) (lit≤ tt) row refl (placed_at true false) refl second 2 (lit≤ tt) (at true false) q refl refl
+dearer true true q = no_cheaper 2 16 (lit≤ tt) (lit≤ tt) (lit≤ tt) row refl (placed_at true true) refl second 2 (lit≤ tt) (at true true) q refl refl
 
 least : (q : Placement) (other : Block) → Admissible 2 second q → Placed before 1 second q other → block_price count_list left ≤ block_price count_list other
-least q other adm p = let f = forced q adm in subst (λ n. n ≤ block_price count_list other) (sym price_left) (dearer f.0 f.1 q other (sym f.2) adm p)
+least q other adm p = let f = forced q adm in subst (λ n. n ≤ block_price count_list other) (sym price_left) (dearer f.0 f.1 q (sym f.2) other adm p)
 
 places : (q : Placement) → Admissible 2 second q → q.places ≡ (1 ∷ 2 ∷ [])
 places q adm = ap (λ x. x.places) (forced q adm).2

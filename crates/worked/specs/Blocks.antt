@@ -1,5 +1,8 @@
 -- Worked blocks, and what is claimed of them.
---   b   a block
+--   b, c   blocks
+--   w      the width of samples
+--   a      what running answers
+--   x, r   a sample and its product
 use Rattle.std.specs.Prelude.{◌≡◌, ℕ, ◌*◌, ◌%◌, ◌≤◌, ◌≢◌, List, ℤ, length, Some, None, Ok, Result}
 use Rattle.std.specs.List.{AllByRecursion}
 use Rattle.adders.specs.declared.refusals.Refusal.{Refusal}
@@ -49,7 +52,7 @@ pub data Fact : Type 0 where
   after : Call → Fact → Fact
 
 -- two chain lines, at codes 0 and 1
-pub record Lines : Type 0 where
+pub record TwoLines : Type 0 where
   pub width : Width
   pub first : List ℕ
   pub second : List ℕ
@@ -79,15 +82,15 @@ pub record Shows (b : Block) (code : ℕ) (line : List ℕ) : Type 0 where
 
 -- whatever running may answer is this product
 abbrev pub RunsWord : Block → ℕ → ℤ → ℤ → Type 0
-RunsWord b code x r = (a : Result Word Refusal) → RunAt (λ w. word_meaning w.value) words (λ n w p. WordProduct n w.value p.value) code (constant_at b code) (record { value = x }) a → a ≡ Ok (record { value = r })
+RunsWord b code x r = (a : Result Word Refusal) → RunAt (λ word. word_meaning word.value) words (λ n s p. WordProduct n s.value p.value) code (constant_at b code) (record { value = x }) a → a ≡ Ok (record { value = r })
 
 pub record IsResidue (a : Result (Residue Mod255) Refusal) (r : ℕ) : Type 0 where
   pub product : Residue Mod255
   pub is : a ≡ Ok product
   pub number : product.number ≡ r
 
-abbrev pub RunsResidue : Block → ℕ → ℕ → ℕ → Type 0
-RunsResidue b code x r = (bounds : Modular 255) (w : Residue Mod255) (a : Result (Residue Mod255) Refusal) → w.number ≡ x → RunAt (λ w. residue bounds w.number) (residues bounds) (λ n w p. p.number ≡ (n * w.number) % 255) code (constant_at b code) w a → IsResidue a r
+abbrev pub RunsMod255 : Block → ℕ → ℕ → ℕ → Type 0
+RunsMod255 b code x r = (bounds : Modular 255) (sample : Residue Mod255) (a : Result (Residue Mod255) Refusal) → sample.number ≡ x → RunAt (λ s. residue bounds s.number) (residues bounds) (λ n s p. p.number ≡ (n * s.number) % 255) code (constant_at b code) sample a → IsResidue a r
 
 abbrev pub Holds : Block → Fact → Type 0
 Holds b (depth n) = block_depth b ≡ n
@@ -95,7 +98,7 @@ Holds b (costs prices n) = Costs prices n b
 Holds b (shows code line) = Shows b code line
 Holds b (multiplies code n) = constant_at b code ≡ Some n
 Holds b (runs_word code x r) = RunsWord b code x r
-Holds b (runs_mod_255 code x r) = RunsResidue b code x r
+Holds b (runs_mod_255 code x r) = RunsMod255 b code x r
 Holds b (refuses call number place) = call_answer call b ≡ fault number place
 Holds b (after call fact) = (call_answer call b ≡ done) × ((c : Block) → Done call b c → Holds c fact)
 
@@ -119,7 +122,7 @@ pub record TwoRows (first second : Chain) (w : ℕ) (b : Block) : Type 0 where
   pub others : (code : ℕ) → code ≢ 0 → code ≢ 1 → row_of b code ≡ None
 
 -- the lines are read as chains, some block is built of them, every such block has their two rows, and all this holds of every block that has them
-pub record AllHold (lines : Lines) (facts : List Fact) : Type 0 where
+pub record AllHold (lines : TwoLines) (facts : List Fact) : Type 0 where
   pub first : Chain
   pub reads_first : Reading lines.first (Ok first)
   pub second : Chain

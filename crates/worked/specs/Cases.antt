@@ -2,7 +2,7 @@
 use Rattle.std.specs.Prelude.{ℕ, List, [], ◌∷◌, ℤ, pos, negsuc, codes}
 use Rattle.blocks.specs.Calls.{retiring, moving}
 use Rattle.worked.specs.Lines.{Answer, constant, done, fault, Answers, Sample, word, residue, Multiplies, Moves}
-use Rattle.worked.specs.Blocks.{Lines, any, bits, Fact, depth, count, units, costs, shows, multiplies, runs_word, runs_mod_255, refuses, after, AllHold}
+use Rattle.worked.specs.Blocks.{TwoLines, any, bits, Fact, depth, count, units, costs, shows, multiplies, runs_word, runs_mod_255, refuses, after, AllHold}
 
 pub data Case : Type 0 where
   -- a line, and what reading it answers
@@ -12,7 +12,7 @@ pub data Case : Type 0 where
   -- a line, and what moving an adder answers wherever it was founded
   move : List ℕ → (adder : ℕ) (amount : ℤ) → Answer → Case
   -- two lines, and what holds of their block
-  block : Lines → List Fact → Case
+  block : TwoLines → List Fact → Case
 
 abbrev pub Stands : Case → Type 0
 Stands (line bs answer) = Answers bs answer
