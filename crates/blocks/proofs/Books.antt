@@ -31,7 +31,7 @@ kept_then : (k : Book) (call : Call) (e : Refusal) (b after : Block) → first_b
 kept_then k call e b after h same t = subst (λ o. Tells (unless_refused o (written k call) k) after) (sym h) (subst (Tells k) (sym same) t)
 
 -- one entry is written
-entry : (code : ℕ) (f g : ℕ → Option ℕ) (o : Option ℕ) → f code ≡ o → ((j : ℕ) → j ≢ code → f j ≡ g j) → (j : ℕ) → f j ≡ cond (eqb j code) o (g j)
+pub entry : (code : ℕ) (f g : ℕ → Option ℕ) (o : Option ℕ) → f code ≡ o → ((j : ℕ) → j ≢ code → f j ≡ g j) → (j : ℕ) → f j ≡ cond (eqb j code) o (g j)
 entry code f g o here others j =
     ⊎_elim
     (λ e. ap f e ∙ here ∙ ap (λ b. cond b o (g j)) (sym (eq-eqb j code e)))

@@ -55,11 +55,3 @@ module _ (w : ℕ) (text rest line after : List ℕ) (calls new : List (Call Cou
 
   pub stops : (e : Refusal) → Reading line (Err e) → (cs : List Chain) × ChainLines text cs (Some e) × (calls ≡ calls_from w 0 cs)
   stops e reads = (g.done, subst (λ ds. ChainLines text ds (Some e)) (append-nil g.done) (g.joins [] (Some e) (turned_down first reads)), g.made)
-
--- each line that is followed by another makes the rest shorter
-pub shorter : (rest line after : List ℕ) → FirstLine rest line after → length after ≢ 0 → length after < length rest
-shorter rest line after f some =
-    ⊎_elim
-    (λ e. omega (arith, ap length e, length-append line (10 ∷ after)))
-    (λ e. absurd (some (ap length e.1)))
-    f.whole

@@ -17,6 +17,7 @@ use Rattle.ports.specs.declared.port.Port.TheVariants.{Output}
 use Rattle.prices.specs.Tables.{Tables, Lawful}
 use Rattle.pricing.specs.Prices.{port_price, adder_with_ports, total, block_price}
 use Rattle.rises.specs.declared.uses.ValuedAdder.{ValuedAdder}
+use Rattle.rises.specs.declared.uses.ValuedOperand.{ValuedOperand}
 use Rattle.rises.specs.Uses.{valued_operand, valued_adder, adder_used, turned}
 use Rattle.rises.specs.Rises.{adder_of, port_of, adder_with, port_with}
 use Rattle.rises.proofs.Parts.{used, unused, port_after, no_less}
@@ -67,21 +68,20 @@ module _ {L : Type 0} (t : Tables) (b : Block) (chain : Chain) (task : Task L) (
         let v = value_placed chain p row of b.adders adm o.source (omega arith) ∙ sym (row_value o.source (omega arith)) in
         λ i. record { operand = record { source = e i; shift = o.shift }; value = v i * 2 ^ o.shift }
 
+    -- an adder's sides at its place, whichever way round
+    same_sides : (j : ℕ) (a : Adder) (s : Bool) (l r : ValuedOperand) (v : ℕ) → valued_operand row (placed_operand p a.left) ≡ l → valued_operand row (placed_operand p a.right) ≡ r → value row.slots j ≡ v
+        → valued_adder row j (placed_adder p s a) ≡ turned s (record { left = l; sign = a.sign; right = r; value = v })
+    same_sides j a false l r v e f g = λ i. record { left = e i; sign = a.sign; right = f i; value = g i }
+    same_sides j a true l r v e f g = λ i. record { left = f i; sign = a.sign; right = e i; value = g i }
+
     same_adder : (before : List ℕ) (d : ℕ) (a : Adder) (s : Bool) → Agrees before d → nth_adder chain d ≡ Some a → valued_adder row (place p d) (placed_adder p s a) ≡ turned s (moved_adder before (valued_adder is.row (suc d) a))
-    same_adder before d a false g e =
+    same_adder before d a s g e =
         let low = nth_lower chain d a e in
         let within = nth_within chain d a e in
-        let l = same_operand before d a.left g low.0 (omega arith) in
-        let r = same_operand before d a.right g low.1 (omega arith) in
-        let v = value_placed chain p row of b.adders adm (suc d) (omega arith) ∙ sym (row_value (suc d) (omega arith)) in
-        λ i. record { left = l i; sign = a.sign; right = r i; value = v i }
-    same_adder before d a true g e =
-        let low = nth_lower chain d a e in
-        let within = nth_within chain d a e in
-        let l = same_operand before d a.left g low.0 (omega arith) in
-        let r = same_operand before d a.right g low.1 (omega arith) in
-        let v = value_placed chain p row of b.adders adm (suc d) (omega arith) ∙ sym (row_value (suc d) (omega arith)) in
-        λ i. record { left = r i; sign = a.sign; right = l i; value = v i }
+        same_sides (place p d) a s (moved before (valued_operand is.row a.left)) (moved before (valued_operand is.row a.right)) (value is.row.slots (suc d))
+        (same_operand before d a.left g low.0 (omega arith))
+        (same_operand before d a.right g low.1 (omega arith))
+        (value_placed chain p row of b.adders adm (suc d) (omega arith) ∙ sym (row_value (suc d) (omega arith)))
 
     module _ (code : ℕ) (after : Block) (idle : row_of b code ≡ None) (w : Rewritten b code (Some row) after) where
       -- an adder that the chain stands at

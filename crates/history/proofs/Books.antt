@@ -1,6 +1,5 @@
 -- A call that keeps to its rules keeps to the plain book.
-use Rattle.std.proofs.Common.{◌≡◌, ℕ, ◌≢◌, cond, eqb, Some, None, Ok, Err, Option, sym, refl, ap, ◌∙◌, subst, ⊎_elim}
-use Rattle.std.proofs.lemmas.Bool.{cases_eq, eq-eqb, ne_eqb}
+use Rattle.std.proofs.Common.{◌≡◌, ℕ, Some, None, Ok, Err, Option, sym, refl, ap, ◌∙◌, subst}
 use Rattle.adders.specs.Rules.{first_broken}
 use Rattle.chains.specs.declared.model.Chain.{Chain}
 use Rattle.chains.specs.Chains.{chain_constant}
@@ -8,7 +7,7 @@ use Rattle.rows.specs.declared.model.Row.{Row}
 use Rattle.blocks.specs.declared.model.Block.{Block}
 use Rattle.blocks.specs.Blocks.{row_of, row_constant_of, constant_at}
 use Rattle.blocks.specs.Books.{Book, unless_refused, Tells}
-use Rattle.blocks.proofs.Books.{steps_follow_book}
+use Rattle.blocks.proofs.Books.{entry, steps_follow_book}
 use Rattle.prices.specs.Tables.{Tables}
 use Rattle.placing.proofs.Whole.{placement_law}
 use Rattle.fusing.specs.Fusing.{fusing_rules, Fused}
@@ -26,14 +25,6 @@ same_causes k b t chain code =
     by : (o : Option Row) → first_broken (fusing_rules (row_constant_of o) b.adders chain code) ≡ first_broken (fusing_rules o b.adders chain code)
     by None = refl
     by (Some r) = refl
-
--- one entry is written
-entry : (code : ℕ) (f g : ℕ → Option ℕ) (o : Option ℕ) → f code ≡ o → ((j : ℕ) → j ≢ code → f j ≡ g j) → (j : ℕ) → f j ≡ cond (eqb j code) o (g j)
-entry code f g o here others j =
-    ⊎_elim
-    (λ e. ap f e ∙ here ∙ ap (λ b. cond b o (g j)) (sym (eq-eqb j code e)))
-    (λ ne. others j ne ∙ ap (λ b. cond b o (g j)) (sym (ne_eqb j code ne)))
-    (cases_eq j code)
 
 -- the block has the chain's constant at its code, and else what it had
 fused_told : (k : Book) (b : Block) (chain : Chain) (code : ℕ) (t : Tables) (price : ℕ) (after : Block) → Tells k b → Fused t b code chain price after → Tells (entered k chain code) after
