@@ -80,5 +80,8 @@ impl SignsMet {
 pub fn adder_at(block: &Block, adder: usize) -> Option<AdderPart>
     ensures { AdderAt block.now adder result }
 {
-    AdderPart::new(SignsMet::at(block, adder).kind()?, Net::OfAdder(adder).width(block))
+    AdderPart::new(
+        SignsMet::at(block, adder).kind()?,
+        Net::OfAdder(adder).width(block),
+    )
 }
