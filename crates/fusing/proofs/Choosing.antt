@@ -22,7 +22,7 @@ use Rattle.pricing.proofs.Comparing.{total_grows}
 use Rattle.rises.specs.declared.held.HeldAdder.{HeldAdder}
 use Rattle.rises.specs.declared.uses.ValuedAdder.{ValuedAdder}
 use Rattle.rises.specs.Uses.{valued_adder, turned, is_plus}
-use Rattle.rises.specs.Rises.{adder_of, port_of, port_with, adder_with, better_turned, way_of}
+use Rattle.rises.specs.Rises.{adder_of, port_of, port_with, ports_with, adder_with, better_turned, way_of}
 use Rattle.rises.proofs.Parts.{unused, no_less}
 use Rattle.search.specs.Choosing.{cost, Cheapest, Choice}
 use Rattle.search.specs.declared.found.Found.{Found}
@@ -43,10 +43,10 @@ use Rattle.fusing.proofs.Following.{opens, rise, last, Goes, gone_through, follo
 
 module _ (t : Tables) (w : ℕ) (h : HeldAdder) (u : ValuedAdder) where
   abbrev as_is : ℕ
-  as_is = adder_with t w h u
+  as_is = ports_with t.muxes w h u.left u.right
 
   abbrev over : ℕ
-  over = adder_with t w h (turned true u)
+  over = ports_with t.muxes w h u.right u.left
 
   -- it is never dearer than what may be
   least_turned : (s : Bool) → (u.sign ≡ Minus → s ≡ false) → adder_with t w h (turned (better_turned t w h u) u) ≤ adder_with t w h (turned s u)
@@ -66,10 +66,10 @@ module _ (t : Tables) (w : ℕ) (h : HeldAdder) (u : ValuedAdder) where
 
   -- and where it is turned, it is cheaper
   turned_less : better_turned t w h u ≡ true → adder_with t w h (turned (better_turned t w h u) u) < adder_with t w h (turned false u)
-  turned_less e = subst (λ s. adder_with t w h (turned s u) < as_is) (sym e) (by (is_plus u.sign) e)
+  turned_less e = subst (λ s. adder_with t w h (turned s u) < adder_with t w h (turned false u)) (sym e) (by (is_plus u.sign) e)
     where
-      by : (g : Bool) → (g && ltb over as_is) ≡ true → over < as_is
-      by true e = ltb-true over as_is e
+      by : (g : Bool) → (g && ltb over as_is) ≡ true → adder_with t w h (turned true u) < adder_with t w h (turned false u)
+      by true e = omega (arith, ltb-true over as_is e)
       by false e = absurd (false≢true e)
 
 -- the first difference of swaps
@@ -141,7 +141,7 @@ module _ {L : Type 0} (t : Tables) (law : Lawful t) (b : Block) (chain : Chain) 
   best_minus ps d a low high e minus =
       let u = use_after (take d ps) d a in
       let h = adder_of t b (get_or ps d 0) in
-      ap swap_of (way_is (take d ps) d (get_or ps d 0) a low high e) ∙ ap (λ g. is_plus g && ltb (adder_with t b.width h (turned true u)) (adder_with t b.width h u)) minus
+      ap swap_of (way_is (take d ps) d (get_or ps d 0) a low high e) ∙ ap (λ g. is_plus g && ltb (ports_with t.muxes b.width h u.right u.left) (ports_with t.muxes b.width h u.left u.right)) minus
 
   -- A placement with each adder the cheaper way round.
   module _ (code : ℕ) (idle : row_of b code ≡ None) (p : Placement) (adm : Admissible b.adders chain p) (best : (d : ℕ) → d < n → swap p d ≡ best_swap p.places d) (after : Block) (placed : Placed b code chain p after) where

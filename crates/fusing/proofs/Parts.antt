@@ -13,6 +13,7 @@ use Rattle.rows.specs.Rows.{adder_at}
 use Rattle.rows.proofs.Chained.{same_value}
 use Rattle.blocks.specs.declared.model.Block.{Block}
 use Rattle.blocks.specs.Blocks.{row_of, Rewritten}
+use Rattle.bits.specs.Bits.{bits}
 use Rattle.ports.specs.declared.port.Port.TheVariants.{Output}
 use Rattle.prices.specs.Tables.{Tables, Lawful}
 use Rattle.pricing.specs.Prices.{port_price, adder_with_ports, total, block_price}
@@ -66,22 +67,22 @@ module _ {L : Type 0} (t : Tables) (b : Block) (chain : Chain) (task : Task L) (
     same_operand before d o g h within =
         let e = same_source before d o.source g h in
         let v = value_placed chain p row of b.adders adm o.source (omega arith) ∙ sym (row_value o.source (omega arith)) in
-        λ i. record { operand = record { source = e i; shift = o.shift }; value = v i * 2 ^ o.shift }
+        λ i. record { operand = record { source = e i; shift = o.shift }; bits = bits (v i * 2 ^ o.shift) }
 
     -- an adder's sides at its place, whichever way round
-    same_sides : (j : ℕ) (a : Adder) (s : Bool) (l r : ValuedOperand) (v : ℕ) → valued_operand row (placed_operand p a.left) ≡ l → valued_operand row (placed_operand p a.right) ≡ r → value row.slots j ≡ v
-        → valued_adder row j (placed_adder p s a) ≡ turned s (record { left = l; sign = a.sign; right = r; value = v })
-    same_sides j a false l r v e f g = λ i. record { left = e i; sign = a.sign; right = f i; value = g i }
-    same_sides j a true l r v e f g = λ i. record { left = f i; sign = a.sign; right = e i; value = g i }
+    same_sides : (j : ℕ) (a : Adder) (s : Bool) (l r : ValuedOperand) (v : ℕ) → valued_operand row (placed_operand p a.left) ≡ l → valued_operand row (placed_operand p a.right) ≡ r → bits (value row.slots j) ≡ v
+        → valued_adder row j (placed_adder p s a) ≡ turned s (record { left = l; sign = a.sign; right = r; bits = v })
+    same_sides j a false l r v e f g = λ i. record { left = e i; sign = a.sign; right = f i; bits = g i }
+    same_sides j a true l r v e f g = λ i. record { left = f i; sign = a.sign; right = e i; bits = g i }
 
     same_adder : (before : List ℕ) (d : ℕ) (a : Adder) (s : Bool) → Agrees before d → nth_adder chain d ≡ Some a → valued_adder row (place p d) (placed_adder p s a) ≡ turned s (moved_adder before (valued_adder is.row (suc d) a))
     same_adder before d a s g e =
         let low = nth_lower chain d a e in
         let within = nth_within chain d a e in
-        same_sides (place p d) a s (moved before (valued_operand is.row a.left)) (moved before (valued_operand is.row a.right)) (value is.row.slots (suc d))
+        same_sides (place p d) a s (moved before (valued_operand is.row a.left)) (moved before (valued_operand is.row a.right)) (bits (value is.row.slots (suc d)))
         (same_operand before d a.left g low.0 (omega arith))
         (same_operand before d a.right g low.1 (omega arith))
-        (value_placed chain p row of b.adders adm (suc d) (omega arith) ∙ sym (row_value (suc d) (omega arith)))
+        (ap bits (value_placed chain p row of b.adders adm (suc d) (omega arith) ∙ sym (row_value (suc d) (omega arith))))
 
     module _ (code : ℕ) (after : Block) (idle : row_of b code ≡ None) (w : Rewritten b code (Some row) after) where
       -- an adder that the chain stands at

@@ -29,10 +29,10 @@ at ps = record { places = ps; swaps = [] }
 
 -- an operand where its source stands
 abbrev pub moved : List ℕ → ValuedOperand → ValuedOperand
-moved before u = record { operand = placed_operand (at before) u.operand; value = u.value }
+moved before u = record { operand = placed_operand (at before) u.operand; bits = u.bits }
 
 abbrev pub moved_adder : List ℕ → ValuedAdder → ValuedAdder
-moved_adder before u = record { left = moved before u.left; sign = u.sign; right = moved before u.right; value = u.value }
+moved_adder before u = record { left = moved before u.left; sign = u.sign; right = moved before u.right; bits = u.bits }
 
 -- what feeds the next adder stands below p
 abbrev pub stands_above : List ℕ → Option ValuedAdder → ℕ → Bool

@@ -15,4 +15,4 @@ pub use net::Net;
 pub use net::widths::operand_value;
 pub use parts::{SignsMet, adder_at, multiplexer_at};
 pub use saving::retire;
-pub use sums::{adder_with_ports, port_price, price};
+pub use sums::price;

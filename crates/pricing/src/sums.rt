@@ -10,7 +10,7 @@ use prices::PriceList;
 
 // What the multiplexer of a port costs.
 #[tactic(auto, unfolding(crate::specs::Prices::port_price))]
-pub fn port_price<L: PriceList>(block: &Block, port: Port, list: &L) -> u32
+fn port_price<L: PriceList>(block: &Block, port: Port, list: &L) -> u32
     ensures price { result ≡ port_price (L.PriceList.muxes list.now) block.now port }
     ensures most { result ≤ 1000000 }
 {
@@ -27,7 +27,7 @@ fn adder_price<L: PriceList>(block: &Block, adder: usize, list: &L) -> u32
 }
 
 // What the adder of a number costs with its two ports.
-pub fn adder_with_ports<L: PriceList>(block: &Block, adder: usize, list: &L) -> u32
+fn adder_with_ports<L: PriceList>(block: &Block, adder: usize, list: &L) -> u32
     ensures price { result ≡ adder_with_ports (tables (L.PriceList.adders list.now) (L.PriceList.muxes list.now)) block.now adder }
     ensures most { result ≤ 3000000 }
 {

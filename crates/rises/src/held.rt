@@ -4,20 +4,20 @@ use pricing::SignsMet;
 
 pub mod calls;
 
-// At a port: its inputs and the largest of their values.
+// At a port: its inputs and the bits of the largest of their values.
 #[derive(Clone, Copy)]
 pub struct HeldPort {
     inputs: InputList,
-    largest: u32,
+    bits: u8,
 }
 
-// At an adder: its two ports, the signs that are met, its largest value, and what it costs with its ports.
+// At an adder: its two ports, the signs that are met, the bits of its largest value, and what it costs with its ports.
 #[derive(Clone, Copy)]
 pub struct HeldAdder {
     left: HeldPort,
     right: HeldPort,
     signs: SignsMet,
-    largest: u32,
+    bits: u8,
     price: u32,
 }
 

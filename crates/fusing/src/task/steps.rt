@@ -31,7 +31,7 @@ fn moved(before: &[u8], used: ValuedOperand) -> ValuedOperand
             source: place_of(before, used.operand.source),
             shift: used.operand.shift,
         },
-        value: used.value,
+        bits: used.bits,
     }
 }
 
@@ -42,7 +42,7 @@ fn moved_adder(before: &[u8], used: ValuedAdder) -> ValuedAdder
         left: moved(before, used.left),
         sign: used.sign,
         right: moved(before, used.right),
-        value: used.value,
+        bits: used.bits,
     }
 }
 

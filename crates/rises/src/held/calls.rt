@@ -1,7 +1,7 @@
 // What one row more would cost at a part.
 ghost use Rattle.std.specs.Prelude.{◌≡◌, ◌≤◌};
 ghost use Rattle.prices.specs.Tables.{tables};
-ghost use Rattle.rises.specs.Rises.{port_of, adder_of, mux_with, kind_with, port_with, adder_with, way_of};
+ghost use Rattle.rises.specs.Rises.{port_of, adder_of, mux_with, kind_with, port_alone, port_with, ports_with, way_of};
 
 use super::{HeldAdder, HeldPort, Way};
 use crate::uses::{ValuedAdder, ValuedOperand};
@@ -10,7 +10,7 @@ use bits::bits;
 use blocks::Block;
 use ports::Port;
 use prices::{AdderPart, Multiplexer, PriceList};
-use pricing::{Net, SignsMet, adder_with_ports};
+use pricing::{Net, SignsMet};
 
 // What a multiplexer of so many inputs costs at a width, nothing where there is none.
 #[tactic(auto, unfolding(crate::specs::Rises::mux_with))]
@@ -39,44 +39,66 @@ impl HeldPort {
     {
         HeldPort {
             inputs: port.inputs(block),
-            largest: Net::OfPort(port).largest(block),
+            bits: bits(Net::OfPort(port).largest(block)) as u8,
         }
     }
 
-    // What the multiplexer would cost with one operand more, where a sample has so many bits.
+    // What the multiplexer costs, where a sample has so many bits.
+    fn price<L: PriceList>(&self, sample: u8, list: &L) -> u32
+        ensures price { result ≡ port_alone (L.PriceList.muxes list.now) sample self.now }
+        ensures most { result ≤ 1000000 }
+    {
+        let width = u32::from(sample) + u32::from(self.bits);
+        multiplexer_price(self.inputs.len(), width, list)
+    }
+
+    // What it would cost with one operand more.
     pub fn price_with<L: PriceList>(&self, sample: u8, used: ValuedOperand, list: &L) -> u32
         ensures price { result ≡ port_with (L.PriceList.muxes list.now) sample self.now used }
         ensures most { result ≤ 1000000 }
     {
         let inputs = self.inputs.len_with(used.operand);
-        let width = u32::from(sample) + bits(used.value.max(self.largest));
+        let width = u32::from(sample) + u32::from(used.bits.max(self.bits));
         multiplexer_price(inputs, width, list)
     }
 }
 
 impl HeldAdder {
+    // What it costs with its ports is reckoned from the same.
     pub fn of<L: PriceList>(block: &Block, adder: usize, list: &L) -> HeldAdder
         ensures { result ≡ adder_of (tables (L.PriceList.adders list.now) (L.PriceList.muxes list.now)) block.now adder }
     {
+        let sample = block.width() as u8;
+        let left = HeldPort::of(block, Port::Left(adder));
+        let right = HeldPort::of(block, Port::Right(adder));
+        let signs = SignsMet::at(block, adder);
+        let bits = bits(Net::OfAdder(adder).largest(block)) as u8;
+        let width = u32::from(sample) + u32::from(bits);
+        let price = kind_price(signs, width, list)
+            + left.price(sample, list)
+            + right.price(sample, list);
         HeldAdder {
-            left: HeldPort::of(block, Port::Left(adder)),
-            right: HeldPort::of(block, Port::Right(adder)),
-            signs: SignsMet::at(block, adder),
-            largest: Net::OfAdder(adder).largest(block),
-            price: adder_with_ports(block, adder, list),
+            left,
+            right,
+            signs,
+            bits,
+            price,
         }
     }
 
-    // What the adder would cost with its ports, if one row more used it so.
-    #[tactic(auto, unfolding(crate::specs::Rises::adder_with))]
-    fn price_with<L: PriceList>(&self, sample: u8, used: ValuedAdder, list: &L) -> u32
-        ensures price { result ≡ adder_with (tables (L.PriceList.adders list.now) (L.PriceList.muxes list.now)) sample self.now used }
-        ensures most { result ≤ 3000000 }
+    // What its two ports would cost with these operands more.
+    #[tactic(auto, unfolding(crate::specs::Rises::ports_with))]
+    fn ports_with<L: PriceList>(
+        &self,
+        sample: u8,
+        left: ValuedOperand,
+        right: ValuedOperand,
+        list: &L,
+    ) -> u32
+        ensures price { result ≡ ports_with (L.PriceList.muxes list.now) sample self.now left right }
+        ensures most { result ≤ 2000000 }
     {
-        let width = u32::from(sample) + bits(used.value.max(self.largest));
-        kind_price(self.signs.with(used.sign), width, list)
-            + self.left.price_with(sample, used.left, list)
-            + self.right.price_with(sample, used.right, list)
+        self.left.price_with(sample, left, list) + self.right.price_with(sample, right, list)
     }
 
     // The cheaper way round for one row more. A minus adder is never turned, nor is one that costs the same.
@@ -84,10 +106,15 @@ impl HeldAdder {
         ensures way { result ≡ way_of (tables (L.PriceList.adders list.now) (L.PriceList.muxes list.now)) sample self.now used }
         ensures most { result.rise ≤ 3000000 }
     {
-        let kept = self.price_with(sample, used, list);
-        let turned = self.price_with(sample, used.turned(), list);
-        let swapped = used.sign == Sign::Plus && turned < kept;
-        let price = if swapped { turned } else { kept };
+        let kept = self.ports_with(sample, used.left, used.right, list);
+        let turned = match used.sign {
+            Sign::Plus => self.ports_with(sample, used.right, used.left, list),
+            Sign::Minus => kept,
+        };
+        let swapped = turned < kept;
+        let ports = if swapped { turned } else { kept };
+        let width = u32::from(sample) + u32::from(used.bits.max(self.bits));
+        let price = kind_price(self.signs.with(used.sign), width, list) + ports;
         Way {
             swapped,
             rise: price.saturating_sub(self.price),

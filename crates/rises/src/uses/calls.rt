@@ -5,6 +5,7 @@ ghost use Rattle.ports.specs.Ports.{operand_at};
 ghost use Rattle.rises.specs.Uses.{operand_used, adder_used, turned};
 
 use super::{ValuedAdder, ValuedOperand};
+use bits::bits;
 use ports::Port;
 use pricing::operand_value;
 use rows::Row;
@@ -16,7 +17,7 @@ impl ValuedOperand {
     {
         Some(ValuedOperand {
             operand: port.operand_of(row)?,
-            value: operand_value(row, port)?,
+            bits: bits(operand_value(row, port)?) as u8,
         })
     }
 }
@@ -30,7 +31,7 @@ impl ValuedAdder {
             left: ValuedOperand::of(row, Port::Left(adder))?,
             sign: row.adder(adder)?.sign,
             right: ValuedOperand::of(row, Port::Right(adder))?,
-            value: row.value(adder)?,
+            bits: bits(row.value(adder)?) as u8,
         })
     }
 
@@ -42,7 +43,7 @@ impl ValuedAdder {
             left: self.right,
             sign: self.sign,
             right: self.left,
-            value: self.value,
+            bits: self.bits,
         }
     }
 }
