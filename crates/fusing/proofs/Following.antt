@@ -78,7 +78,7 @@ module _ {L : Type 0} (t : Tables) (b : Block) (chain : Chain) (task : Task L) (
         let r = lt-ltb (placed_source (at before) a.0.right.source) (place p d) (lower before d a.0.right.source a.0 g a.1 (inr refl) low.1) in
         let apart = free before (place p d) (λ i k. λ e. adm.apart i d (omega arith) (omega (arith, adm.each_placed)) (sym (g i (omega arith)) ∙ e)) in
         let above : stands_above before (uses (length before)) (place p d) ≡ true = ap (λ u. stands_above before u (place p d)) some ∙ (λ i. l i && r i) in
-        λ i. not (apart i) && above i
+        λ i. above i && not (apart i)
 
     goes : (m : ℕ) (before rest : List ℕ) → before ++ rest ≡ p.places → length rest ≡ m → Goes m before rest
     goes zero before [] e h = tt
@@ -124,7 +124,7 @@ module _ {L : Type 0} (t : Tables) (b : Block) (chain : Chain) (task : Task L) (
     opened d h = follows_at n [] ps d g h
 
     taken : (d : ℕ) → d < length ps → list_any (λ x. eqb x (get_or ps d 0)) (take d ps) ≡ false
-    taken d h = not_true _ (both _ _ (opened d h).2).0
+    taken d h = not_true _ (both _ _ (opened d h).2).1
 
     fed_at : (c d : ℕ) (a : Adder) → nth_adder chain d ≡ Some a → HasSource a (suc c) → get_or ps c 0 < get_or ps d 0
     fed_at c d a e has =
@@ -133,7 +133,7 @@ module _ {L : Type 0} (t : Tables) (b : Block) (chain : Chain) (task : Task L) (
         let long : length (take d ps) ≡ d = omega (arith, length-take d ps, size) in
         let some : uses (length (take d ps)) ≡ Some (valued_adder is.row (suc d) a) = ap uses long ∙ use_at t b chain task is d a e in
         let q = get_or ps d 0 in
-        let above = (both (not (list_any (λ x. eqb x q) (take d ps))) (stands_above (take d ps) (uses (length (take d ps))) q) (opened d (omega (arith, size))).2).1 in
+        let above = (both (stands_above (take d ps) (uses (length (take d ps))) q) (not (list_any (λ x. eqb x q) (take d ps))) (opened d (omega (arith, size))).2).0 in
         let two = both (ltb (placed_source (at (take d ps)) a.left.source) q) (ltb (placed_source (at (take d ps)) a.right.source) q) (ap (λ o. stands_above (take d ps) o q) (sym some) ∙ above) in
         ⊎_elim
         (λ l. omega (arith, get_or-take d ps c 0, low.0, l, ltb-true (get_or (take d ps) c 0) q (ap (λ j. ltb (placed_source (at (take d ps)) j) q) (sym l) ∙ two.0)))

@@ -41,7 +41,7 @@ stands_above before (Some u) p = nat_lt (placed_source (at before) u.left.operan
 
 -- the next adder may stand at p
 abbrev pub opens_at : (ℕ → Option ValuedAdder) → List ℕ → ℕ → Bool
-opens_at uses before p = not (list_any (λ q. q == p) before) && stands_above before (uses (length before)) p
+opens_at uses before p = stands_above before (uses (length before)) p && not (list_any (λ q. q == p) before)
 
 -- the cheaper way round for it there
 abbrev pub way_at : Tables → ℕ → List ℕ → Option HeldAdder → Option ValuedAdder → Option Way

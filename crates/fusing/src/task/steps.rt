@@ -112,7 +112,7 @@ impl<L: PriceList> Steps for Task<'_, L> {
 
     fn opens(&self, before: ChoiceList, choice: u8) -> bool {
         let places = before.as_slice();
-        !places.contains(&choice) && stands_above(places, self.next_use(places), choice)
+        stands_above(places, self.next_use(places), choice) && !places.contains(&choice)
     }
 
     fn rise(&self, before: ChoiceList, choice: u8) -> u32 {
