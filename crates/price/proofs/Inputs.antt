@@ -1,5 +1,5 @@
 -- The list of an input.
-use Rattle.std.proofs.Common.{ℕ, List, Ok, Err, Result, sym, subst}
+use Rattle.std.proofs.Common.{◌≡◌, ℕ, List, Ok, Err, Result, sym, subst}
 use Rattle.adders.specs.declared.refusals.Refusal.{Refusal}
 use Rattle.adders.specs.Rules.{Answered}
 use Rattle.prices.specs.declared.per_bit.PerBitList.{PerBitList}

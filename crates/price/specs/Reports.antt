@@ -1,7 +1,7 @@
 -- What standard input is answered, and what is printed of it.
 --   line    the first line of the input, without its line feed
 --   sheet   what follows it
-use Rattle.std.specs.Prelude.{◌≡◌, ℕ, ◌+◌, ◌-◌, ◌^◌, ◌⊎◌, List, [], ◌∷◌, ◌++◌, Some, Ok, Err, Result, codes, decimal, min}
+use Rattle.std.specs.Prelude.{◌≡◌, ℕ, ◌+◌, ◌-◌, ◌^◌, List, ◌++◌, Some, Ok, Err, Result, codes, decimal, min}
 use Rattle.adders.specs.declared.refusals.Refusal.{Refusal}
 use Rattle.adders.specs.declared.refusals.Refusal.TheVariants as R
 use Rattle.adders.specs.declared.refusals.LineRefusal.{LineRefusal}
