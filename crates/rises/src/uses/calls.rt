@@ -1,8 +1,8 @@
-// What a row puts somewhere, and an adder turned.
-ghost use Rattle.std.specs.Prelude.{◌≡◌, true};
+// What a row puts somewhere.
+ghost use Rattle.std.specs.Prelude.{◌≡◌};
 ghost use Rattle.rows.specs.Rows.{adder_at};
 ghost use Rattle.ports.specs.Ports.{operand_at};
-ghost use Rattle.rises.specs.Uses.{operand_used, adder_used, turned};
+ghost use Rattle.rises.specs.Uses.{operand_used, adder_used};
 
 use super::{ValuedAdder, ValuedOperand};
 use bits::bits;
@@ -33,17 +33,5 @@ impl ValuedAdder {
             right: ValuedOperand::of(row, Port::Right(adder))?,
             bits: bits(row.value(adder)?) as u8,
         })
-    }
-
-    // With its operands exchanged.
-    pub fn turned(self) -> ValuedAdder
-        ensures { result ≡ turned true self }
-    {
-        ValuedAdder {
-            left: self.right,
-            sign: self.sign,
-            right: self.left,
-            bits: self.bits,
-        }
     }
 }
