@@ -6,11 +6,9 @@ ghost use Rattle.fusegen.specs.Generated.{Made, Generated, first_fault, unless_f
 
 use crate::script::Script;
 use adders::{LineRefusal, Refusal};
-use arith::Word;
-use blocks::Block;
 use calls::{Call, read_width};
 use forms::first_line;
-use history::{Outcome, Samples, replay};
+use history::{Outcome, apply_all};
 use prices::CountList;
 use std::alloc::{AllocError, Global};
 
@@ -41,7 +39,7 @@ fn unless_fault(fault: Option<LineRefusal>, length: usize) -> Result<usize, Line
     fault.map_or(Ok(length), Err)
 }
 
-// Makes the calls of a script and writes the sheet of the block that they leave, which has its length. The block is read back and run as after every list of calls, and what that answers is not asked for.
+// Makes the calls of a script and writes the sheet of the block that they leave, which has its length.
 fn made(
     calls: &[Call<CountList>],
     outcomes: &mut [Outcome],
@@ -52,17 +50,13 @@ fn made(
     ensures answer { Made (map (event_of (λ _. count_adders) (λ _. count_muxes)) calls.now) stop (sheet_of sheet.new result) }
     ensures few { IfOk result (λ length. length ≤ 4096) }
 {
-    let mut place = Block::new();
-    let samples = Samples {
-        code: 0,
-        sample: Word::from(1),
-        buffer: &[],
-    };
-    let answer = replay(calls, outcomes, sheet, &mut place, &samples, &mut []);
-    let Ok(replayed) = answer else {
+    let Ok(block) = apply_all(calls, outcomes) else {
         unreachable!();
     };
-    unless_fault(first_fault(outcomes, stop), replayed.length)
+    let Ok(length) = sheets::write(&block, sheet) else {
+        unreachable!();
+    };
+    unless_fault(first_fault(outcomes, stop), length)
 }
 
 // The sheet of the block that an input says, with its length, or what is turned down and in which line.

@@ -5,10 +5,8 @@ ghost use Rattle.replay.specs.Reports.{reports_of, Made, Replays};
 
 use crate::report::LineReport;
 use crate::script::Script;
-use arith::Word;
-use blocks::Block;
 use calls::{Call, SuppliedList, Unread};
-use history::{Outcome, Samples, replay};
+use history::{Outcome, apply_all};
 use std::alloc::{AllocError, Global};
 use std::io;
 
@@ -19,23 +17,19 @@ pub struct Transcript {
     length: usize,
 }
 
-// Makes the calls and writes the sheet of the block that they leave, which has this length. The block is read back and run as after every list of calls, and what that answers is not asked for.
+// Makes the calls and writes the sheet of the block that they leave, which has this length.
 fn made(calls: &[Call<SuppliedList>], outcomes: &mut [Outcome], sheet: &mut [u8; 4096]) -> usize
     requires { length calls.now ≡ length outcomes.old }
     ensures made { Made (map event calls.now) outcomes.new (take result sheet.new) }
     ensures few { result ≤ 4096 }
 {
-    let mut place = Block::new();
-    let samples = Samples {
-        code: 0,
-        sample: Word::from(1),
-        buffer: &[],
-    };
-    let answer = replay(calls, outcomes, sheet, &mut place, &samples, &mut []);
-    let Ok(replayed) = answer else {
+    let Ok(block) = apply_all(calls, outcomes) else {
         unreachable!();
     };
-    replayed.length
+    let Ok(length) = sheets::write(&block, sheet) else {
+        unreachable!();
+    };
+    length
 }
 
 // Each line has its report: that of its call, in their order, or why it gives none.

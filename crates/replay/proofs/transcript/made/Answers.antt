@@ -5,5 +5,6 @@ use Rattle.replay.proofs.transcript.made.Goals as goal
 
 pub returns-clause-made : goal.returns-clause-made
 returns-clause-made c =
-    let replay = c.in-Ok.ensures.answer.1 in
-    record { block = replay.block; history = replay.history; written = (λ i. take (replay.written.0 i) (replay.written.2 i)) ∙ take-append_seam (written_sheet replay.block) _ }
+    let block = c.in-Ok.block in
+    let written = c.in-Ok-write.ensures.answer in
+    record { block = block; history = c.in-Ok.ensures.answer.1; written = (λ i. take (written.0 i) (written.2 i)) ∙ take-append_seam (written_sheet block) _ }
