@@ -9,6 +9,9 @@ pub mod calls;
 pub mod filling;
 pub mod runs;
 
+// The widest sample.
+const MOST_BITS: usize = 32;
+
 // How many adders it has, how many bits a sample, and the row of each live code. No row uses an adder that it has not.
 #[derive(Clone, Copy)]
 pub struct Block {

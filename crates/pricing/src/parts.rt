@@ -31,8 +31,8 @@ pub struct SignsMet {
 }
 
 impl SignsMet {
-    #[tactic(auto, using(crate::proofs::Columns::no_sign_yet, crate::proofs::Columns::sign_more))]
     // Those of all live rows.
+    #[tactic(auto, using(crate::proofs::Columns::no_sign_yet, crate::proofs::Columns::sign_more))]
     pub fn at(block: &Block, adder: usize) -> SignsMet
         ensures { result ≡ signs_at block.now adder }
     {

@@ -6,13 +6,11 @@ ghost use Rattle.blocks.specs.Blocks.{Unfounded, row_of, Live, constant_at, Same
 ghost use Rattle.blocks.specs.Calls.{founding, retiring, moving, MovableAt, Step};
 ghost use Rattle.blocks.specs.Books.{empty_book, Tells, FollowsBook};
 
-use super::Block;
+use super::{Block, MOST_BITS};
 use adders::Refusal;
 use chains::Chain;
 use rows::Row;
 use tables::Table;
-
-const MOST_BITS: usize = 32;
 
 impl Block {
     // A place that is not yet founded.

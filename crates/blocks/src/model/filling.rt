@@ -4,14 +4,12 @@ ghost use Rattle.adders.specs.Rules.{Answered, Changed};
 ghost use Rattle.blocks.specs.Blocks.{Rewritten};
 ghost use Rattle.blocks.specs.Filling.{Bare, size_rules, filling_rules, uses_none_past};
 
-use super::Block;
+use super::{Block, MOST_BITS};
 use adders::Refusal;
 use rows::Row;
 use tables::Table;
 
 const MOST_ADDERS: usize = 8;
-
-const MOST_BITS: usize = 32;
 
 impl Block {
     // A block of so many adders, for samples of so many bits, without a live code.

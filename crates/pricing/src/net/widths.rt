@@ -35,8 +35,8 @@ impl Net {
         }
     }
 
-    #[tactic(auto, using(crate::proofs::Columns::none_yet, crate::proofs::Columns::value_more, crate::proofs::Columns::no_value))]
     // The largest of these values over the live rows, 0 where none uses the part.
+    #[tactic(auto, using(crate::proofs::Columns::none_yet, crate::proofs::Columns::value_more, crate::proofs::Columns::no_value))]
     pub fn largest(self, block: &Block) -> u32
         ensures value { result ≡ largest_on block.now self }
         ensures few { result ≤ 2147483647 }
