@@ -1,0 +1,75 @@
+//! Asking a program for its output.
+
+use std::io::{self, Read, Write};
+use std::path::{Path, PathBuf};
+use std::process::{Child, ChildStdout, Command, ExitStatus, Stdio};
+use std::sync::mpsc;
+use std::thread;
+use std::time::Duration;
+
+use crate::programs::Program;
+
+/// A program that answers nothing for so long is taken to answer never.
+const PATIENCE: Duration = Duration::from_secs(60);
+
+/// What answers as the programs do.
+pub trait Subject: Sync {
+    fn answer(&self, program: Program, input: &[u8]) -> io::Result<Vec<u8>>;
+}
+
+/// The programs of a folder of crates, each a process of its own.
+pub struct Crates {
+    folder: PathBuf,
+}
+
+impl Crates {
+    pub fn in_folder(folder: &Path) -> Self {
+        Crates { folder: folder.to_path_buf() }
+    }
+
+    pub fn binary(&self, program: Program) -> PathBuf {
+        self.folder.join(program.name()).join("out").join(program.name())
+    }
+
+    pub fn stored_input(&self, program: Program) -> PathBuf {
+        self.folder.join(program.name()).join("stdin")
+    }
+}
+
+impl Subject for Crates {
+    fn answer(&self, program: Program, input: &[u8]) -> io::Result<Vec<u8>> {
+        let (status, output) = run(&mut Command::new(self.binary(program)), input)?;
+        if status.success() {
+            Ok(output)
+        } else {
+            Err(io::Error::other(format!("{} ended with {status}", program.name())))
+        }
+    }
+}
+
+/// Runs a command on an input. Input and output each have a thread, since a
+/// program may write before it has read all.
+pub fn run(command: &mut Command, input: &[u8]) -> io::Result<(ExitStatus, Vec<u8>)> {
+    let mut child = command.stdin(Stdio::piped()).stdout(Stdio::piped()).spawn()?;
+    let (stdin, stdout) = (child.stdin.take(), child.stdout.take());
+    let input = input.to_vec();
+    // A program that stops reading has its output compared all the same.
+    let writer = thread::spawn(move || stdin.map(|mut stdin| stdin.write_all(&input)));
+    let output = read_all(&mut child, stdout);
+    let status = child.wait()?;
+    let _ = writer.join();
+    Ok((status, output?))
+}
+
+fn read_all(child: &mut Child, stdout: Option<ChildStdout>) -> io::Result<Vec<u8>> {
+    let (sender, receiver) = mpsc::channel();
+    thread::spawn(move || {
+        let mut output = Vec::new();
+        let read = stdout.map_or(Ok(0), |mut stdout| stdout.read_to_end(&mut output));
+        let _ = sender.send(read.map(|_| output));
+    });
+    receiver.recv_timeout(PATIENCE).unwrap_or_else(|_| {
+        child.kill()?;
+        Err(io::Error::new(io::ErrorKind::TimedOut, "no end of output"))
+    })
+}
