@@ -23,3 +23,4 @@ pub mod refusal;
 pub mod row;
 pub mod script;
 pub mod sheet;
+pub mod workload;

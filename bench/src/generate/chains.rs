@@ -123,7 +123,7 @@ fn any_operand(random: &mut Random) -> Operand {
 /// A line with some bytes edited.
 pub fn damaged_line(random: &mut Random) -> Vec<u8> {
     let mut line = if random.chance(30) { ruled_line(random) } else { valid_line(random) };
-    let edits = random.between(1, 4);
+    let edits = random.between(1, 2);
     damage::bytes(random, &mut line, edits);
     line.retain(|&byte| byte != b'\n');
     line

@@ -13,11 +13,13 @@ pub fn valid(random: &mut Random) -> Vec<u8> {
 }
 
 fn shuffled(random: &mut Random, block: &Block) -> Vec<u8> {
-    write_in_order(block, |port: Port| {
+    let mut sheet = Vec::new();
+    write_in_order(block, &mut sheet, |port: Port| {
         let mut inputs = port.inputs(block).as_slice().to_vec();
         random.shuffle(&mut inputs);
         inputs
-    })
+    });
+    sheet
 }
 
 /// Edits of what the lines say: inputs, entries, codes, limits.

@@ -4,7 +4,7 @@ mod read;
 mod write;
 
 pub use read::{read, SheetRefusal};
-pub use write::{write, write_in_order};
+pub use write::{write, write_in_order, write_into};
 
 /// The most bytes of a sheet.
 pub const LONGEST: usize = 4096;

@@ -2,33 +2,38 @@
 
 use std::io::Write;
 
-use crate::adder::Operand;
+use crate::adder::{Adder, Operand};
 use crate::block::Block;
 use crate::port::Port;
 use crate::row::Row;
 
 /// The sheet with each port's inputs ascending.
 pub fn write(block: &Block) -> Vec<u8> {
-    let inputs = |port: Port| port.inputs(block).as_slice().to_vec();
-    write_in_order(block, inputs)
-}
-
-/// The sheet with the inputs of each port in the order handed in.
-pub fn write_in_order(block: &Block, mut inputs: impl FnMut(Port) -> Vec<Operand>) -> Vec<u8> {
-    let ports: Vec<(Port, Vec<Operand>)> = Port::of(block.adders()).map(|port| (port, inputs(port))).collect();
     let mut sheet = Vec::new();
-    let head = format!("adders={}\nwidth={}\n", block.adders(), block.width());
-    sheet.extend_from_slice(head.as_bytes());
-    for (port, inputs) in &ports {
-        port_line(&mut sheet, *port, inputs);
-    }
-    for (code, row) in block.live_codes() {
-        code_line(&mut sheet, code, row, &ports);
-    }
+    write_into(block, &mut sheet);
     sheet
 }
 
-/// Nothing that is written into memory fails, so what `write!` answers is left.
+/// The same, over what a buffer held.
+pub fn write_into(block: &Block, sheet: &mut Vec<u8>) {
+    sheet.clear();
+    write_in_order(block, sheet, |port| port.inputs(block).as_slice().to_vec());
+}
+
+/// The sheet with the inputs of each port in the order handed in, put at the
+/// end of a buffer.
+pub fn write_in_order(block: &Block, sheet: &mut Vec<u8>, inputs: impl FnMut(Port) -> Vec<Operand>) {
+    let inputs: Vec<Vec<Operand>> = Port::of(block.adders()).map(inputs).collect();
+    // Nothing that is written into memory fails, so what `write!` answers is left.
+    let _ = write!(sheet, "adders={}\nwidth={}\n", block.adders(), block.width());
+    for (port, inputs) in Port::of(block.adders()).zip(&inputs) {
+        port_line(sheet, port, inputs);
+    }
+    for (code, row) in block.live_codes() {
+        code_line(sheet, code, row, block.adders(), &inputs);
+    }
+}
+
 fn port_line(sheet: &mut Vec<u8>, port: Port, inputs: &[Operand]) {
     let _ = write!(sheet, "{port}=");
     for (index, input) in inputs.iter().enumerate() {
@@ -37,19 +42,19 @@ fn port_line(sheet: &mut Vec<u8>, port: Port, inputs: &[Operand]) {
     sheet.push(b'\n');
 }
 
-fn code_line(sheet: &mut Vec<u8>, code: usize, row: &Row, ports: &[(Port, Vec<Operand>)]) {
+fn code_line(sheet: &mut Vec<u8>, code: usize, row: &Row, adders: usize, inputs: &[Vec<Operand>]) {
+    let number = |port: usize, operand: Operand| {
+        let place = inputs[port].iter().position(|&input| input == operand);
+        place.unwrap_or_default()
+    };
     let _ = write!(sheet, "s{code:02}=");
-    for (port, inputs) in ports {
-        let number = port.operand(row).and_then(|operand| inputs.iter().position(|&input| input == operand));
-        let _ = match (port, number) {
-            (Port::Left(_), Some(number)) => write!(sheet, "{number}"),
-            (Port::Left(_), None) => Ok(()),
-            (Port::Right(adder), Some(number)) => {
-                let sign = row.adder(*adder).map(|adder| adder.sign.to_string()).unwrap_or_default();
-                write!(sheet, "{sign}{number} ")
+    for index in 0..adders {
+        let _ = match row.adder(index + 1) {
+            Some(Adder { left, sign, right }) => {
+                write!(sheet, "{}{sign}{} ", number(2 * index, left), number(2 * index + 1, right))
             }
-            (Port::Right(_), None) => write!(sheet, "- "),
-            (Port::Output, number) => writeln!(sheet, "{}", number.unwrap_or(0)),
+            None => write!(sheet, "- "),
         };
     }
+    let _ = writeln!(sheet, "{}", number(2 * adders, row.output()));
 }
