@@ -11,7 +11,8 @@ pub const MOST_ADDERS: usize = 8;
 /// What an operand, an adder or an output is for a sample of 1.
 pub type Value = i64;
 
-const LARGEST_VALUE: Value = 2_147_483_647;
+/// The largest value of an operand, an adder or an output.
+pub const LARGEST_VALUE: Value = 2_147_483_647;
 
 pub fn in_range(value: Value) -> bool {
     (1..=LARGEST_VALUE).contains(&value)

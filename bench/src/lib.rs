@@ -14,6 +14,7 @@ pub mod depth;
 pub mod fusing;
 pub mod generate;
 pub mod integer;
+pub mod measure;
 pub mod planted;
 pub mod port;
 pub mod price;

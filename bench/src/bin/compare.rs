@@ -102,8 +102,9 @@ fn compared(options: &Options, families: &[Family], crates: &Crates) -> Result<b
     let stored = stored(families, crates)?;
     let outcomes = compare(families, crates, &options.plan(false));
     print!("{}", report::table(families, &outcomes));
-    print!("{}", report::refusals(&report::sum(&outcomes)));
-    let not_met = report::not_met(&report::sum(&outcomes));
+    let sum = report::sum(&outcomes);
+    print!("{}{}", report::refusals(&sum), report::calls(&sum));
+    let not_met = report::not_met(&sum);
     if !not_met.is_empty() {
         println!("not met: {not_met:?}");
     }
@@ -116,7 +117,7 @@ fn compared(options: &Options, families: &[Family], crates: &Crates) -> Result<b
     if is_cut_short(options, families, &outcomes) {
         println!("time ran out before all inputs were drawn");
     }
-    print!("{}", report::last_line(families, &outcomes));
+    print!("{}", report::last_line(&outcomes));
     let is_whole = options.family.is_empty() && options.percent >= 100;
     let agreed = outcomes.iter().all(|outcome| outcome.differed == 0);
     Ok(agreed && stored.0 == stored.1 && (not_met.is_empty() || !is_whole))

@@ -118,7 +118,7 @@ fn try_one(family: &Family, subject: &dyn Subject, seed: u64, task: Task) -> Out
 
 fn judge(family: &Family, subject: &dyn Subject, index: usize, input: &[u8], cases: usize) -> Outcome {
     let (program, reference) = both(family.program, subject, input);
-    let mut outcome = Outcome { inputs: 1, tally: Tally::of(family.program, &program), ..Outcome::default() };
+    let mut outcome = Outcome { inputs: 1, tally: Tally::of(family.program, input, &program), ..Outcome::default() };
     if program == reference {
         outcome.agreed = cases;
     } else {

@@ -1,5 +1,6 @@
 //! Comparing the programs with the reference, byte for byte.
 
+pub mod calls;
 pub mod driver;
 pub mod families;
 pub mod report;

@@ -7,7 +7,6 @@ use std::path::{Path, PathBuf};
 use crate::compare::driver::{Difference, Outcome};
 use crate::compare::families::Family;
 use crate::compare::tally::{Tally, NUMBERS};
-use crate::programs::Program;
 
 pub fn table(families: &[Family], outcomes: &[Outcome]) -> String {
     let mut text = format!(
@@ -15,7 +14,7 @@ pub fn table(families: &[Family], outcomes: &[Outcome]) -> String {
         "family", "inputs", "cases", "agreed", "differed", "accepted", "turned down", "share"
     );
     for (family, outcome) in families.iter().zip(outcomes) {
-        let Tally { done, turned_down, .. } = outcome.tally;
+        let &Tally { done, turned_down, .. } = &outcome.tally;
         let cases = outcome.agreed + outcome.differed;
         text += &format!(
             "{:<20}{:>8}{:>9}{:>9}{:>10}{:>11}{:>12}{:>6}%\n",
@@ -49,19 +48,19 @@ pub fn sum(outcomes: &[Outcome]) -> Tally {
     sum
 }
 
-pub fn last_line(families: &[Family], outcomes: &[Outcome]) -> String {
+/// What the calls of `replay` were answered. A call that was not readable is
+/// none of them.
+pub fn calls(sum: &Tally) -> String {
+    format!("readable calls of replay: {}\n{}", sum.calls.total(), sum.calls.table())
+}
+
+pub fn last_line(outcomes: &[Outcome]) -> String {
     let agreed: usize = outcomes.iter().map(|outcome| outcome.agreed).sum();
     let differed: usize = outcomes.iter().map(|outcome| outcome.differed).sum();
     let Tally { done, turned_down, .. } = sum(outcomes);
     let share = share(done, turned_down);
-    let calls: usize = families
-        .iter()
-        .zip(outcomes)
-        .filter(|(family, _)| family.program == Program::Replay)
-        .map(|(_, outcome)| outcome.tally.done + outcome.tally.turned_down)
-        .sum();
     format!(
-        "calls of replay: {calls}\nanswers: {done} accepted ({share}%), {turned_down} turned down ({}%)\n\
+        "answers: {done} accepted ({share}%), {turned_down} turned down ({}%)\n\
          {agreed} cases agreed, {differed} differed\n",
         100 - share
     )

@@ -38,7 +38,7 @@ impl Crates {
 
 impl Subject for Crates {
     fn answer(&self, program: Program, input: &[u8]) -> io::Result<Vec<u8>> {
-        let (status, output) = run(&mut Command::new(self.binary(program)), input)?;
+        let Run { status, output, .. } = run(&mut Command::new(self.binary(program)), input, |_| ())?;
         if status.success() {
             Ok(output)
         } else {
@@ -47,18 +47,27 @@ impl Subject for Crates {
     }
 }
 
+/// What a process left.
+pub struct Run<T> {
+    pub status: ExitStatus,
+    pub output: Vec<u8>,
+    /// What was asked of the process between the end of its output and its own.
+    pub asked: T,
+}
+
 /// Runs a command on an input. Input and output each have a thread, since a
 /// program may write before it has read all.
-pub fn run(command: &mut Command, input: &[u8]) -> io::Result<(ExitStatus, Vec<u8>)> {
+pub fn run<T>(command: &mut Command, input: &[u8], ask: impl FnOnce(&Child) -> T) -> io::Result<Run<T>> {
     let mut child = command.stdin(Stdio::piped()).stdout(Stdio::piped()).spawn()?;
     let (stdin, stdout) = (child.stdin.take(), child.stdout.take());
     let input = input.to_vec();
     // A program that stops reading has its output compared all the same.
     let writer = thread::spawn(move || stdin.map(|mut stdin| stdin.write_all(&input)));
     let output = read_all(&mut child, stdout);
+    let asked = ask(&child);
     let status = child.wait()?;
     let _ = writer.join();
-    Ok((status, output?))
+    Ok(Run { status, output: output?, asked })
 }
 
 fn read_all(child: &mut Child, stdout: Option<ChildStdout>) -> io::Result<Vec<u8>> {

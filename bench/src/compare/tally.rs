@@ -1,5 +1,6 @@
 //! What the programs answered, so that one sees what the inputs reach.
 
+use crate::compare::calls::Calls;
 use crate::programs::Program;
 
 /// Every number of REFUSALS.md that a program can give. 27 and 31 are causes
@@ -7,7 +8,7 @@ use crate::programs::Program;
 pub const NUMBERS: [usize; 22] =
     [11, 12, 13, 14, 15, 16, 20, 21, 22, 23, 24, 25, 26, 28, 29, 40, 41, 42, 43, 44, 45, 46];
 
-#[derive(Clone, Copy, Debug)]
+#[derive(Clone, Debug)]
 pub struct Tally {
     /// Lines, calls or inputs that were accepted, and those turned down.
     pub done: usize,
@@ -17,17 +18,21 @@ pub struct Tally {
     pub numbers: [usize; 100],
     /// The numbers that a broken row of a sheet carries.
     pub carried: [usize; 100],
+    pub calls: Calls,
 }
 
 impl Default for Tally {
     fn default() -> Self {
-        Tally { done: 0, turned_down: 0, unreadable: 0, numbers: [0; 100], carried: [0; 100] }
+        Tally { done: 0, turned_down: 0, unreadable: 0, numbers: [0; 100], carried: [0; 100], calls: Calls::default() }
     }
 }
 
 impl Tally {
-    pub fn of(program: Program, output: &[u8]) -> Self {
+    pub fn of(program: Program, input: &[u8], output: &[u8]) -> Self {
         let mut tally = Tally::default();
+        if program == Program::Replay {
+            tally.calls = Calls::of(input, output);
+        }
         for line in output.split(|&byte| byte == b'\n') {
             if line == b"sheet" {
                 break;
@@ -55,6 +60,7 @@ impl Tally {
         self.done += other.done;
         self.turned_down += other.turned_down;
         self.unreadable += other.unreadable;
+        self.calls.add(&other.calls);
         for number in 0..100 {
             self.numbers[number] += other.numbers[number];
             self.carried[number] += other.carried[number];

@@ -13,18 +13,25 @@ pub fn any(random: &mut Random) -> Block {
     let adders = chains::count(random, MOST_ADDERS);
     let live = random.pick(&[0, 1, 2, 3, 5, 8, 12, 16]);
     let reach = chains::reach(random);
-    of(random, adders, live, reach)
+    of(random, adders, live, |random| {
+        let count = chains::count(random, adders);
+        chains::valid(random, count, reach)
+    })
 }
 
-/// A block of so many adders and live codes.
-pub fn of(random: &mut Random, adders: usize, live: usize, reach: u8) -> Block {
+/// Sixteen live codes, each with a row of eight adders.
+pub fn full(random: &mut Random) -> Block {
+    of(random, MOST_ADDERS, CODES, |random| chains::valid(random, MOST_ADDERS, 3))
+}
+
+/// A block of so many adders and live codes, with a chain drawn for each.
+fn of(random: &mut Random, adders: usize, live: usize, mut chain: impl FnMut(&mut Random) -> Chain) -> Block {
     let width = random.between(1, 32) as u64;
     let mut block = Block::bare(adders, width).unwrap_or_else(|_| Block::unfounded());
     let mut codes: Vec<usize> = (0..CODES).collect();
     random.shuffle(&mut codes);
     for &code in &codes[..live] {
-        let count = chains::count(random, adders);
-        let chain = chains::valid(random, count, reach);
+        let chain = chain(random);
         if let Some(row) = placed_anywhere(random, &chain, adders) {
             // A row over the block's own adders at an idle code is never refused.
             let _ = block.fill(code as u64, row);

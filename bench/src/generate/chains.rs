@@ -1,6 +1,6 @@
 //! Chains and chain lines.
 
-use crate::adder::{Adder, Operand, Sign, Value};
+use crate::adder::{Adder, Operand, Sign, Value, LARGEST_VALUE};
 use crate::chain::{text, Chain};
 use crate::generate::damage;
 use crate::random::Random;
@@ -24,22 +24,33 @@ fn attempt(random: &mut Random, count: usize, reach: u8) -> Option<Chain> {
             let left_over = unread.iter().filter(|&&source| !adder.reads(source.into())).count();
             left_over <= count - number && adder.value(&values).is_some()
         };
-        let adder = (0..40).map(|_| adder(random, number, &unread, reach)).find(allowed)?;
+        let adder = (0..40).map(|_| adder(random, &values, &unread, reach)).find(allowed)?;
         values.push(adder.value(&values)?);
         unread.retain(|&source| !adder.reads(source.into()));
         unread.push(number as u8);
         adders.push(adder);
     }
-    let highest = (0..=30).rev().find(|&shift| values[count] << shift <= 2_147_483_647)?;
+    let highest = (0..=30).rev().find(|&shift| values[count] << shift <= LARGEST_VALUE)?;
     let shift = if random.chance(5) { highest } else { shift(random, reach).min(highest) };
     Chain::new(adders, shift).ok()
 }
 
-fn adder(random: &mut Random, number: usize, unread: &[u8], reach: u8) -> Adder {
-    let left = operand(random, number, unread, reach);
-    let right = operand(random, number, unread, reach);
+fn adder(random: &mut Random, values: &[Value], unread: &[u8], reach: u8) -> Adder {
+    let left = operand(random, values.len(), unread, reach);
+    let right = operand(random, values.len(), unread, reach);
     let sign = if random.chance(30) { Sign::Minus } else { Sign::Plus };
+    if random.chance(5) {
+        return Adder { left: steep(left, values), sign: Sign::Minus, right: steep(right, values) };
+    }
     Adder { left, sign, right }
+}
+
+/// An operand under the highest shift that its source may have. The operands
+/// of a minus adder may lie far above its value, and then a move that leaves
+/// every shift in its range can take them out of theirs.
+fn steep(operand: Operand, values: &[Value]) -> Operand {
+    let fits = |&shift: &u8| values[usize::from(operand.source)] << shift <= LARGEST_VALUE;
+    Operand { shift: (0..=30).rev().find(fits).unwrap_or(0), ..operand }
 }
 
 fn operand(random: &mut Random, number: usize, unread: &[u8], reach: u8) -> Operand {
