@@ -82,7 +82,9 @@ impl Adder {
     }
 
     pub fn reads(self, source: usize) -> bool {
-        self.operands().iter().any(|operand| usize::from(operand.source) == source)
+        self.operands()
+            .iter()
+            .any(|operand| usize::from(operand.source) == source)
     }
 
     /// Its value, or nothing where it or one of its operands is out of range.
@@ -92,11 +94,18 @@ impl Adder {
             Sign::Plus => left + right,
             Sign::Minus => left - right,
         };
-        [left, right, value].into_iter().all(in_range).then_some(value)
+        [left, right, value]
+            .into_iter()
+            .all(in_range)
+            .then_some(value)
     }
 
     pub fn swapped(self) -> Self {
-        Adder { left: self.right, sign: self.sign, right: self.left }
+        Adder {
+            left: self.right,
+            sign: self.sign,
+            right: self.left,
+        }
     }
 }
 

@@ -67,7 +67,9 @@ impl<const M: u32> Arithmetic for Residue<M> {
     }
 
     fn shifted(self, shift: u8) -> Self {
-        (0..shift).fold(Self::reduced(u64::from(self.0)), |sample, _| sample.sum(sample))
+        (0..shift).fold(Self::reduced(u64::from(self.0)), |sample, _| {
+            sample.sum(sample)
+        })
     }
 }
 
@@ -98,8 +100,12 @@ pub fn run<A: Arithmetic>(row: &Row, sample: A) -> A {
     let mut made = [A::neutral(); MOST_ADDERS + 1];
     made[0] = sample;
     for number in 1..=MOST_ADDERS {
-        let Some(adder) = row.adder(number) else { continue };
-        let [left, right] = adder.operands().map(|operand| made[usize::from(operand.source)].shifted(operand.shift));
+        let Some(adder) = row.adder(number) else {
+            continue;
+        };
+        let [left, right] = adder
+            .operands()
+            .map(|operand| made[usize::from(operand.source)].shifted(operand.shift));
         made[number] = match adder.sign {
             Sign::Plus => left.sum(right),
             Sign::Minus => left.difference(right),

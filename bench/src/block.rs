@@ -20,7 +20,11 @@ pub struct Block {
 impl Block {
     /// The place that is not yet founded.
     pub fn unfounded() -> Self {
-        Block { adders: 0, width: 1, rows: [None; CODES] }
+        Block {
+            adders: 0,
+            width: 1,
+            rows: [None; CODES],
+        }
     }
 
     /// A block without a live code.
@@ -28,7 +32,11 @@ impl Block {
         if adders > MOST_ADDERS {
             return Err(Cause::TooManyAdders.at(MOST_ADDERS + 1));
         }
-        Ok(Block { adders, width: judge_width(width)?, rows: [None; CODES] })
+        Ok(Block {
+            adders,
+            width: judge_width(width)?,
+            rows: [None; CODES],
+        })
     }
 
     /// Starts anew with a chain at a code; whatever was there is discarded.
@@ -89,17 +97,25 @@ impl Block {
 
     /// The live codes with their rows, ascending.
     pub fn live_codes(&self) -> impl Iterator<Item = (usize, &Row)> {
-        self.rows.iter().enumerate().filter_map(|(code, row)| row.as_ref().map(|row| (code, row)))
+        self.rows
+            .iter()
+            .enumerate()
+            .filter_map(|(code, row)| row.as_ref().map(|row| (code, row)))
     }
 
     fn live(&self, code: u64) -> Result<(usize, Row), Refusal> {
         let code = judge_code(code)?;
-        self.rows[code].map(|row| (code, row)).ok_or(Cause::CodeIdle.at(0))
+        self.rows[code]
+            .map(|row| (code, row))
+            .ok_or(Cause::CodeIdle.at(0))
     }
 }
 
 fn judge_code(code: u64) -> Result<usize, Refusal> {
-    usize::try_from(code).ok().filter(|&code| code < CODES).ok_or(Cause::CodeAboveFifteen.at(0))
+    usize::try_from(code)
+        .ok()
+        .filter(|&code| code < CODES)
+        .ok_or(Cause::CodeAboveFifteen.at(0))
 }
 
 pub fn judge_width(width: u64) -> Result<u32, Refusal> {
@@ -123,14 +139,23 @@ mod tests {
         let mut block = Block::unfounded();
         assert_eq!(block.found(&chain("chain=0.0+0.2 0"), 3, 16), Ok(()));
         assert_eq!(block.found(&chain("chain=1"), 0, 32), Ok(()));
-        assert_eq!((block.adders(), block.width(), block.live_rows().count()), (0, 32, 1));
+        assert_eq!(
+            (block.adders(), block.width(), block.live_rows().count()),
+            (0, 32, 1)
+        );
     }
 
     #[test]
     fn a_code_is_judged_before_a_width() {
         let mut block = Block::unfounded();
-        assert_eq!(block.found(&chain("chain=0"), 16, 33), Err(Cause::CodeAboveFifteen.at(0)));
-        assert_eq!(block.found(&chain("chain=0"), 15, 33), Err(Cause::WidthOutOfRange.at(0)));
+        assert_eq!(
+            block.found(&chain("chain=0"), 16, 33),
+            Err(Cause::CodeAboveFifteen.at(0))
+        );
+        assert_eq!(
+            block.found(&chain("chain=0"), 15, 33),
+            Err(Cause::WidthOutOfRange.at(0))
+        );
         assert_eq!(block.retire(15), Err(Cause::CodeIdle.at(0)));
         assert_eq!(block, Block::unfounded());
     }

@@ -33,13 +33,19 @@ impl Chain {
         let mut values = vec![1];
         for (index, &adder) in adders.iter().enumerate() {
             judge_operands(adder, index + 1)?;
-            let value = adder.value(&values).ok_or(Cause::ValueOutOfRange.at(index + 1))?;
+            let value = adder
+                .value(&values)
+                .ok_or(Cause::ValueOutOfRange.at(index + 1))?;
             values.push(value);
         }
         let constant = output(values[adders.len()], shift)?;
         match unread(&adders) {
             Some(adder) => Err(Cause::NotAsRead.at(adder)),
-            None => Ok(Chain { adders, shift, constant }),
+            None => Ok(Chain {
+                adders,
+                shift,
+                constant,
+            }),
         }
     }
 
@@ -158,7 +164,10 @@ mod tests {
 
     #[test]
     fn the_chain_of_the_formats() {
-        assert_eq!(constant("chain=0.0+0.2 1.0+1.11 2.0+0.5 3.0-0.8 0"), Ok(10_021));
+        assert_eq!(
+            constant("chain=0.0+0.2 1.0+1.11 2.0+0.5 3.0-0.8 0"),
+            Ok(10_021)
+        );
         assert_eq!(constant("chain=0.0+0.2 1.0+1.3 0"), Ok(45));
     }
 

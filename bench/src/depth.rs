@@ -12,8 +12,14 @@ pub fn depth(block: &Block) -> u32 {
 fn port_depth(block: &Block, port: Port) -> u32 {
     let inputs = port.inputs(block);
     let inputs = inputs.as_slice();
-    let sources = inputs.iter().map(|input| source_depth(block, usize::from(input.source)));
-    let levels = if planted::is(Plant::NoLevels) { 0 } else { bits(inputs.len() as i64) };
+    let sources = inputs
+        .iter()
+        .map(|input| source_depth(block, usize::from(input.source)));
+    let levels = if planted::is(Plant::NoLevels) {
+        0
+    } else {
+        bits(inputs.len() as i64)
+    };
     sources.max().map_or(0, |deepest| levels + deepest)
 }
 

@@ -24,7 +24,12 @@ pub fn fuse(block: &mut Block, chain: &Chain, code: u64, list: PriceList) -> Res
 }
 
 /// The first of the cheapest, since placements come in their order.
-fn cheapest(block: &Block, chain: &Chain, code: u64, list: PriceList) -> Result<(Block, u64), Refusal> {
+fn cheapest(
+    block: &Block,
+    chain: &Chain,
+    code: u64,
+    list: PriceList,
+) -> Result<(Block, u64), Refusal> {
     let mut best: Option<(Block, u64)> = None;
     for places in place_lists(chain, block.adders()) {
         for swaps in swap_lists(chain) {
@@ -48,6 +53,9 @@ fn cheapest(block: &Block, chain: &Chain, code: u64, list: PriceList) -> Result<
 pub fn place_lists(chain: &Chain, adders: usize) -> Vec<Places> {
     let mut lists = Vec::new();
     extend(chain, adders, &mut Vec::new(), &mut lists);
+    if planted::is(Plant::PlacesFromLast) {
+        lists.sort_by_key(|places| places.iter().rev().copied().collect::<Places>());
+    }
     lists
 }
 
@@ -56,7 +64,11 @@ fn extend(chain: &Chain, adders: usize, places: &mut Places, lists: &mut Vec<Pla
         lists.push(places.clone());
         return;
     };
-    let above = adder.operands().map(|operand| place_of(places, operand.source)).into_iter().max();
+    let above = adder
+        .operands()
+        .map(|operand| place_of(places, operand.source))
+        .into_iter()
+        .max();
     for place in above.unwrap_or(0) + 1..=adders as u8 {
         if !places.contains(&place) {
             places.push(place);
@@ -77,21 +89,34 @@ fn place_of(places: &[u8], source: u8) -> u8 {
 /// so ascending choices are in the order of placements.
 pub fn swap_lists(chain: &Chain) -> impl Iterator<Item = u32> {
     let bit = |adder: &Adder| u32::from(adder.sign == Sign::Minus);
-    let minus = chain.adders().iter().fold(0, |bits, adder| bits << 1 | bit(adder));
+    let minus = chain
+        .adders()
+        .iter()
+        .fold(0, |bits, adder| bits << 1 | bit(adder));
     (0..1 << chain.adders().len()).filter(move |swaps| swaps & minus == 0)
 }
 
 /// The row of a placement.
 pub fn placed(chain: &Chain, places: &[u8], swaps: u32) -> Result<Row, Refusal> {
     let count = chain.adders().len();
-    let moved = |operand: Operand| Operand { source: place_of(places, operand.source), ..operand };
+    let moved = |operand: Operand| Operand {
+        source: place_of(places, operand.source),
+        ..operand
+    };
     let mut slots: Slots = [None; MOST_ADDERS];
     for (index, (&adder, &place)) in chain.adders().iter().zip(places).enumerate() {
-        let adder = Adder { left: moved(adder.left), right: moved(adder.right), ..adder };
+        let adder = Adder {
+            left: moved(adder.left),
+            right: moved(adder.right),
+            ..adder
+        };
         let swap = swaps >> (count - 1 - index) & 1 == 1;
         slots[usize::from(place) - 1] = Some(if swap { adder.swapped() } else { adder });
     }
-    Row::new(slots, Operand::new(place_of(places, count as u8), chain.shift()))
+    Row::new(
+        slots,
+        Operand::new(place_of(places, count as u8), chain.shift()),
+    )
 }
 
 #[cfg(test)]
@@ -113,7 +138,10 @@ mod tests {
         let mut block = founded("chain=0.1+0.2 0");
         let ten = chain("chain=0.0+0.2 1");
         assert_eq!(fuse(&mut block, &ten, 1, PriceList::Count), Ok(2));
-        assert_eq!(block.row(1).and_then(|row| row.adder(1)), Some(ten.adders()[0]));
+        assert_eq!(
+            block.row(1).and_then(|row| row.adder(1)),
+            Some(ten.adders()[0])
+        );
     }
 
     #[test]

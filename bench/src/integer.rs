@@ -13,9 +13,13 @@ pub fn read_integer(line: &[u8]) -> Result<i64, Broken> {
     let mut integer = signed(cursor.digit()?, is_negative);
     while integer != 0 && !cursor.is_at_end() {
         let grown = cursor.peek().filter(u8::is_ascii_digit).and_then(|byte| {
-            integer.checked_mul(10)?.checked_add(signed(byte - b'0', is_negative))
+            integer
+                .checked_mul(10)?
+                .checked_add(signed(byte - b'0', is_negative))
         });
-        let Some(grown) = grown else { return cursor.broken() };
+        let Some(grown) = grown else {
+            return cursor.broken();
+        };
         cursor.digit()?;
         integer = grown;
     }

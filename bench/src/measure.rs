@@ -29,7 +29,11 @@ pub struct Work {
 
 impl Work {
     fn input(&self, count: u64) -> Vec<u8> {
-        [format!("{} {count}\n", self.verb).as_bytes(), &self.material].concat()
+        [
+            format!("{} {count}\n", self.verb).as_bytes(),
+            &self.material,
+        ]
+        .concat()
     }
 }
 
@@ -39,13 +43,28 @@ pub fn works(seed: u64) -> Vec<Work> {
     let few: &[u64] = &[1, 2];
     // More rounds than there are samples, so that the place of a round turns.
     let turning: &[u64] = &[1, 2, 5000];
-    let work = |name, verb, material, checked| Work { name, verb, material, checked };
+    let work = |name, verb, material, checked| Work {
+        name,
+        verb,
+        material,
+        checked,
+    };
     let large = sheet::write(&blocks::full(&mut random));
     let small = SMALL_SHEET.as_bytes().to_vec();
     vec![
-        work("fuse sixteen random", "fuse", random_chains(&mut random), few),
+        work(
+            "fuse sixteen random",
+            "fuse",
+            random_chains(&mut random),
+            few,
+        ),
         work("fuse ladders and a tree", "fuse", ladders(), few),
-        work("run eight adders", "run", samples(&mut random, MOST_ADDERS), turning),
+        work(
+            "run eight adders",
+            "run",
+            samples(&mut random, MOST_ADDERS),
+            turning,
+        ),
         work("run three adders", "run", samples(&mut random, 3), turning),
         work("read a large sheet", "read", large.clone(), few),
         work("read a small sheet", "read", small.clone(), few),
@@ -92,7 +111,9 @@ pub struct Worker {
 
 impl Worker {
     pub fn at(path: &Path) -> Self {
-        Worker { path: path.to_path_buf() }
+        Worker {
+            path: path.to_path_buf(),
+        }
     }
 
     fn run(&self, work: &Work, count: u64) -> io::Result<Run<Option<Duration>>> {
@@ -100,7 +121,12 @@ impl Worker {
         if run.status.success() {
             Ok(run)
         } else {
-            Err(io::Error::other(format!("{} ended with {} at {}", self.path.display(), run.status, work.name)))
+            Err(io::Error::other(format!(
+                "{} ended with {} at {}",
+                self.path.display(),
+                run.status,
+                work.name
+            )))
         }
     }
 
@@ -139,7 +165,11 @@ fn on_core(child: &Child) -> Option<Duration> {
         }
         thread::sleep(Duration::from_micros(200));
     }
-    let nanoseconds = of_child("schedstat")?.split_whitespace().next()?.parse().ok()?;
+    let nanoseconds = of_child("schedstat")?
+        .split_whitespace()
+        .next()?
+        .parse()
+        .ok()?;
     (nanoseconds > 0).then(|| Duration::from_nanos(nanoseconds))
 }
 
@@ -156,7 +186,11 @@ struct Timing<'a> {
 impl<'a> Timing<'a> {
     fn new(worker: &'a Worker, work: &Work) -> io::Result<Self> {
         let large = worker.large_count(work)?;
-        Ok(Timing { worker, counts: [large / 5, large], least: [Duration::MAX; 2] })
+        Ok(Timing {
+            worker,
+            counts: [large / 5, large],
+            least: [Duration::MAX; 2],
+        })
     }
 
     fn try_once(&mut self, work: &Work) -> io::Result<()> {
@@ -175,9 +209,14 @@ impl<'a> Timing<'a> {
 /// Seconds of one repetition, of both. The two take turns, so that what else
 /// the machine does meets both alike.
 pub fn seconds_of_one(work: &Work, workers: [&Worker; 2], tries: usize) -> io::Result<[f64; 2]> {
-    let mut timings = [Timing::new(workers[0], work)?, Timing::new(workers[1], work)?];
+    let mut timings = [
+        Timing::new(workers[0], work)?,
+        Timing::new(workers[1], work)?,
+    ];
     for _ in 0..tries {
-        timings.iter_mut().try_for_each(|timing| timing.try_once(work))?;
+        timings
+            .iter_mut()
+            .try_for_each(|timing| timing.try_once(work))?;
     }
     Ok(timings.map(|timing| timing.seconds_of_one()))
 }
@@ -187,7 +226,8 @@ pub fn check(work: &Work, one: &Worker, other: &Worker) -> Result<(), Box<dyn Er
     for &count in work.checked {
         let [one, other] = [one.run(work, count)?.output, other.run(work, count)?.output];
         if one != other {
-            let [one, other] = [one, other].map(|answer| String::from_utf8_lossy(&answer).trim().to_string());
+            let [one, other] =
+                [one, other].map(|answer| String::from_utf8_lossy(&answer).trim().to_string());
             return Err(format!("{} {count} times: {one} and {other}", work.name).into());
         }
     }

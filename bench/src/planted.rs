@@ -25,10 +25,20 @@ pub enum Plant {
     LastOfEquals,
     /// An amount of -30 is out of range.
     AmountThirty,
+    /// Equally cheap lists of places are compared from the last adder.
+    PlacesFromLast,
+    /// The values of a row are judged before which slots are filled.
+    ValuesFirst,
+    /// The last port line with an input that no row selects is told.
+    LastUnselected,
+    /// The chain of a script's line is judged before its unit prices.
+    ChainFirst,
+    /// A move that takes an operand out of its range is told at the output.
+    MovedAtOutput,
 }
 
 impl Plant {
-    pub const ALL: [Plant; 8] = [
+    pub const ALL: [Plant; 13] = [
         Plant::HighestUnread,
         Plant::NegativeRemainder,
         Plant::HighestReader,
@@ -37,6 +47,11 @@ impl Plant {
         Plant::WidthOfPort,
         Plant::LastOfEquals,
         Plant::AmountThirty,
+        Plant::PlacesFromLast,
+        Plant::ValuesFirst,
+        Plant::LastUnselected,
+        Plant::ChainFirst,
+        Plant::MovedAtOutput,
     ];
 
     pub fn name(self) -> &'static str {
@@ -49,6 +64,11 @@ impl Plant {
             Plant::WidthOfPort => "width-of-port",
             Plant::LastOfEquals => "last-of-equals",
             Plant::AmountThirty => "amount-thirty",
+            Plant::PlacesFromLast => "places-from-last",
+            Plant::ValuesFirst => "values-first",
+            Plant::LastUnselected => "last-unselected",
+            Plant::ChainFirst => "chain-first",
+            Plant::MovedAtOutput => "moved-at-output",
         }
     }
 

@@ -33,7 +33,10 @@ impl Port {
     /// The different operands that live rows put here, ascending.
     pub fn inputs(self, block: &Block) -> Inputs {
         let mut inputs = Inputs::none();
-        block.live_rows().filter_map(|row| self.operand(row)).for_each(|operand| inputs.put(operand));
+        block
+            .live_rows()
+            .filter_map(|row| self.operand(row))
+            .for_each(|operand| inputs.put(operand));
         inputs
     }
 }
@@ -58,7 +61,13 @@ pub struct Inputs {
 
 impl Inputs {
     fn none() -> Self {
-        Inputs { list: [Operand { source: 0, shift: 0 }; CODES], count: 0 }
+        Inputs {
+            list: [Operand {
+                source: 0,
+                shift: 0,
+            }; CODES],
+            count: 0,
+        }
     }
 
     pub fn as_slice(&self) -> &[Operand] {

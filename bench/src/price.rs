@@ -26,7 +26,9 @@ pub enum Kind {
 
 impl Kind {
     fn of(signs: impl Iterator<Item = Sign>) -> Option<Self> {
-        signs.map(Kind::from).reduce(|one, other| if one == other { one } else { Kind::Both })
+        signs
+            .map(Kind::from)
+            .reduce(|one, other| if one == other { one } else { Kind::Both })
     }
 }
 
@@ -60,13 +62,21 @@ pub struct UnitPrices {
 
 impl UnitPrices {
     pub fn new([adds, subtracts, both, two_way]: [u64; 4]) -> Result<Self, Refusal> {
-        if [adds, subtracts, both, two_way].into_iter().any(|unit| unit > HIGHEST_UNIT) {
+        if [adds, subtracts, both, two_way]
+            .into_iter()
+            .any(|unit| unit > HIGHEST_UNIT)
+        {
             return Err(Cause::UnitTooHigh.at(0));
         }
         if both < adds || both < subtracts {
             return Err(Cause::BothTooCheap.at(0));
         }
-        Ok(UnitPrices { adds, subtracts, both, two_way })
+        Ok(UnitPrices {
+            adds,
+            subtracts,
+            both,
+            two_way,
+        })
     }
 
     /// Reads a line of unit prices.
@@ -99,7 +109,9 @@ pub enum PriceList {
 
 impl PriceList {
     fn adder(self, part: AdderPart) -> u64 {
-        let PriceList::PerBit(units) = self else { return 0 };
+        let PriceList::PerBit(units) = self else {
+            return 0;
+        };
         let unit = match part.kind {
             Kind::Adds => units.adds,
             Kind::Subtracts => units.subtracts,
@@ -127,12 +139,19 @@ impl AdderPart {
     /// The adder of a number, where some live row uses it.
     pub fn at(block: &Block, number: usize) -> Option<Self> {
         let adders = || block.live_rows().filter(|row| row.adder(number).is_some());
-        let kind = Kind::of(adders().filter_map(|row| row.adder(number)).map(|adder| adder.sign))?;
+        let kind = Kind::of(
+            adders()
+                .filter_map(|row| row.adder(number))
+                .map(|adder| adder.sign),
+        )?;
         let largest = match planted::is(Plant::WidthOfPort) {
             false => adders().map(|row| row.value(number)).max()?,
             true => largest_at(block, Port::Left(number))?,
         };
-        Some(AdderPart { kind, width: block.width() + bits(largest) })
+        Some(AdderPart {
+            kind,
+            width: block.width() + bits(largest),
+        })
     }
 }
 
@@ -172,7 +191,15 @@ mod tests {
 
     #[test]
     fn the_bits_of_the_prices() {
-        let cases = [(1, 0), (2, 1), (3, 2), (4, 2), (5, 3), (8, 3), (2_147_483_647, 31)];
+        let cases = [
+            (1, 0),
+            (2, 1),
+            (3, 2),
+            (4, 2),
+            (5, 3),
+            (8, 3),
+            (2_147_483_647, 31),
+        ];
         for (value, expected) in cases {
             assert_eq!(bits(value), expected, "{value}");
         }

@@ -13,12 +13,12 @@ impl Random {
     /// depend on which others were drawn before it.
     pub fn of_case(seed: u64, family: u64, case: u64) -> Self {
         let mut random = Random::new(seed);
-        let family = random.next() ^ family.wrapping_mul(0x9e37_79b9_7f4a_7c15);
+        let family = random.draw() ^ family.wrapping_mul(0x9e37_79b9_7f4a_7c15);
         let mut random = Random::new(family);
-        Random::new(random.next() ^ case.wrapping_mul(0xd134_2543_de82_ef95))
+        Random::new(random.draw() ^ case.wrapping_mul(0xd134_2543_de82_ef95))
     }
 
-    pub fn next(&mut self) -> u64 {
+    pub fn draw(&mut self) -> u64 {
         self.state = self.state.wrapping_add(0x9e37_79b9_7f4a_7c15);
         let mixed = (self.state ^ self.state >> 30).wrapping_mul(0xbf58_476d_1ce4_e5b9);
         let mixed = (mixed ^ mixed >> 27).wrapping_mul(0x94d0_49bb_1331_11eb);
@@ -27,7 +27,7 @@ impl Random {
 
     /// A number below the limit, which is above 0.
     pub fn below(&mut self, limit: usize) -> usize {
-        (self.next() % limit as u64) as usize
+        (self.draw() % limit as u64) as usize
     }
 
     /// A number of the range, both ends included.

@@ -22,12 +22,19 @@ pub struct Row {
 impl Row {
     pub fn new(slots: Slots, output: Operand) -> Result<Self, Refusal> {
         judge_sources_and_shifts(&slots, output)?;
+        if planted::is(Plant::ValuesFirst) {
+            values(&slots)?;
+        }
         judge_filling(&slots, output)?;
         let values = values(&slots)?;
         if !in_range(output.value(&values)) {
             return Err(Cause::ValueOutOfRange.at(0));
         }
-        Ok(Row { slots, output, values })
+        Ok(Row {
+            slots,
+            output,
+            values,
+        })
     }
 
     pub fn from_chain(chain: &Chain) -> Result<Self, Refusal> {
@@ -35,7 +42,10 @@ impl Row {
         for (slot, &adder) in slots.iter_mut().zip(chain.adders()) {
             *slot = Some(adder);
         }
-        Row::new(slots, Operand::new(chain.adders().len() as u8, chain.shift()))
+        Row::new(
+            slots,
+            Operand::new(chain.adders().len() as u8, chain.shift()),
+        )
     }
 
     /// The adder of a number from 1 to 8, where the row uses it.
@@ -61,7 +71,10 @@ impl Row {
 
     /// The number of the highest adder that the row uses, or 0.
     pub fn highest(&self) -> usize {
-        (1..=MOST_ADDERS).rev().find(|&number| self.adder(number).is_some()).unwrap_or(0)
+        (1..=MOST_ADDERS)
+            .rev()
+            .find(|&number| self.adder(number).is_some())
+            .unwrap_or(0)
     }
 
     /// The row after both shifts of an adder rose by an amount, and whatever
@@ -75,18 +88,32 @@ impl Row {
         let mut slots = self.slots;
         let own = shift_both(own, |_| amount).ok_or(Cause::ShiftOutOfRange.at(number))?;
         slots[number - 1] = Some(own);
-        let fall = |source: u8| if usize::from(source) == number { -amount } else { 0 };
+        let fall = |source: u8| {
+            if usize::from(source) == number {
+                -amount
+            } else {
+                0
+            }
+        };
         for reader in self.readers(number) {
             let moved = slots[reader - 1].and_then(|adder| shift_both(adder, fall));
             slots[reader - 1] = Some(moved.ok_or(Cause::ShiftOutOfRange.at(reader))?);
         }
         let output = shifted(self.output, fall(self.output.source));
         let output = output.ok_or(Cause::ShiftOutOfRange.at(0))?;
-        Row::new(slots, output)
+        let place = if planted::is(Plant::MovedAtOutput) {
+            0
+        } else {
+            number
+        };
+        // Nothing but the operands of the moved adder can leave their range.
+        Row::new(slots, output).map_err(|refusal| refusal.cause.at(place))
     }
 
     fn used(&self, adder: u64) -> Option<(usize, Adder)> {
-        let number = usize::try_from(adder).ok().filter(|number| (1..=MOST_ADDERS).contains(number))?;
+        let number = usize::try_from(adder)
+            .ok()
+            .filter(|number| (1..=MOST_ADDERS).contains(number))?;
         self.adder(number).map(|own| (number, own))
     }
 
@@ -109,7 +136,11 @@ fn shifted(operand: Operand, amount: i64) -> Option<Operand> {
 fn shift_both(adder: Adder, amount: impl Fn(u8) -> i64) -> Option<Adder> {
     let left = shifted(adder.left, amount(adder.left.source))?;
     let right = shifted(adder.right, amount(adder.right.source))?;
-    Some(Adder { left, right, ..adder })
+    Some(Adder {
+        left,
+        right,
+        ..adder
+    })
 }
 
 fn judge_sources_and_shifts(slots: &Slots, output: Operand) -> Result<(), Refusal> {
@@ -129,9 +160,17 @@ fn judge_sources_and_shifts(slots: &Slots, output: Operand) -> Result<(), Refusa
 fn judge_filling(slots: &Slots, output: Operand) -> Result<(), Refusal> {
     let mut read = [false; MOST_ADDERS + 1];
     read[usize::from(output.source)] = true;
-    for number in (1..=MOST_ADDERS).rev().filter(|&number| slots[number - 1].is_some()) {
+    for number in (1..=MOST_ADDERS)
+        .rev()
+        .filter(|&number| slots[number - 1].is_some())
+    {
         let sources = slots[number - 1].map(|adder| adder.operands().map(|operand| operand.source));
-        for source in sources.into_iter().flatten().filter(|_| read[number]).collect::<Vec<_>>() {
+        for source in sources
+            .into_iter()
+            .flatten()
+            .filter(|_| read[number])
+            .collect::<Vec<_>>()
+        {
             read[usize::from(source)] = true;
         }
     }
@@ -146,7 +185,9 @@ fn values(slots: &Slots) -> Result<[Value; MOST_ADDERS + 1], Refusal> {
     values[0] = 1;
     for (index, slot) in slots.iter().enumerate() {
         if let Some(adder) = slot {
-            values[index + 1] = adder.value(&values).ok_or(Cause::ValueOutOfRange.at(index + 1))?;
+            values[index + 1] = adder
+                .value(&values)
+                .ok_or(Cause::ValueOutOfRange.at(index + 1))?;
         }
     }
     Ok(values)
@@ -188,8 +229,17 @@ mod tests {
         };
         let mut slots = [None; MOST_ADDERS];
         slots[0] = adder("0.0+0.2");
-        assert_eq!(Row::new(slots, Operand::new(0, 0)), Err(Cause::NotAsRead.at(1)));
-        assert_eq!(Row::new(slots, Operand::new(2, 0)), Err(Cause::NotAsRead.at(1)));
-        assert_eq!(Row::new(slots, Operand::new(9, 31)), Err(Cause::SourceNotLower.at(0)));
+        assert_eq!(
+            Row::new(slots, Operand::new(0, 0)),
+            Err(Cause::NotAsRead.at(1))
+        );
+        assert_eq!(
+            Row::new(slots, Operand::new(2, 0)),
+            Err(Cause::NotAsRead.at(1))
+        );
+        assert_eq!(
+            Row::new(slots, Operand::new(9, 31)),
+            Err(Cause::SourceNotLower.at(0))
+        );
     }
 }

@@ -4,16 +4,31 @@ use crate::block::{judge_width, Block};
 use crate::chain::Chain;
 use crate::cursor::{Broken, Cursor};
 use crate::fusing::fuse;
+use crate::planted::{self, Plant};
 use crate::price::{PriceList, UnitPrices};
 use crate::refusal::{Cause, Refusal};
 
 /// A call on a block by its arguments.
 #[derive(Clone, Debug, PartialEq, Eq)]
 pub enum Call {
-    Found { chain: Chain, code: u64, width: u64 },
-    Fuse { chain: Chain, code: u64, list: PriceList },
-    Retire { code: u64 },
-    Move { code: u64, adder: u64, amount: i64 },
+    Found {
+        chain: Chain,
+        code: u64,
+        width: u64,
+    },
+    Fuse {
+        chain: Chain,
+        code: u64,
+        list: PriceList,
+    },
+    Retire {
+        code: u64,
+    },
+    Move {
+        code: u64,
+        adder: u64,
+        amount: i64,
+    },
 }
 
 /// Why a line of a script makes no call.
@@ -37,7 +52,10 @@ impl From<Refusal> for NoCall {
 
 impl Call {
     pub fn read(line: &[u8]) -> Result<Self, NoCall> {
-        let space = line.iter().position(|&byte| byte == b' ').ok_or(NoCall::Unreadable)?;
+        let space = line
+            .iter()
+            .position(|&byte| byte == b' ')
+            .ok_or(NoCall::Unreadable)?;
         let mut cursor = Cursor::new(&line[space + 1..]);
         match &line[..space] {
             b"found" => Call::read_found(&mut cursor),
@@ -65,11 +83,18 @@ impl Call {
         let code = word(cursor)?;
         let units = units(cursor)?;
         let line = chain_line(cursor)?;
+        if planted::is(Plant::ChainFirst) {
+            Chain::read(line)?;
+        }
         let list = match units {
             Some(units) => PriceList::PerBit(UnitPrices::new(units)?),
             None => PriceList::Count,
         };
-        Ok(Call::Fuse { chain: Chain::read(line)?, code, list })
+        Ok(Call::Fuse {
+            chain: Chain::read(line)?,
+            code,
+            list,
+        })
     }
 
     fn read_move(cursor: &mut Cursor) -> Result<Self, Broken> {
@@ -78,7 +103,11 @@ impl Call {
         let is_negative = cursor.skip(b'-');
         let amount = cursor.number(9)? as i64;
         cursor.end()?;
-        Ok(Call::Move { code, adder, amount: if is_negative { -amount } else { amount } })
+        Ok(Call::Move {
+            code,
+            adder,
+            amount: if is_negative { -amount } else { amount },
+        })
     }
 
     /// Makes the call, and answers the price where it is a fusing.
@@ -87,7 +116,11 @@ impl Call {
             Call::Found { chain, code, width } => block.found(chain, *code, *width).map(|()| None),
             Call::Fuse { chain, code, list } => fuse(block, chain, *code, *list).map(Some),
             Call::Retire { code } => block.retire(*code).map(|()| None),
-            Call::Move { code, adder, amount } => block.move_shifts(*code, *adder, *amount).map(|()| None),
+            Call::Move {
+                code,
+                adder,
+                amount,
+            } => block.move_shifts(*code, *adder, *amount).map(|()| None),
         }
     }
 }
@@ -105,7 +138,12 @@ fn units(cursor: &mut Cursor) -> Result<Option<[u64; 4]>, Broken> {
         cursor.key(b"count ")?;
         return Ok(None);
     }
-    Ok(Some([word(cursor)?, word(cursor)?, word(cursor)?, word(cursor)?]))
+    Ok(Some([
+        word(cursor)?,
+        word(cursor)?,
+        word(cursor)?,
+        word(cursor)?,
+    ]))
 }
 
 fn chain_line<'a>(cursor: &mut Cursor<'a>) -> Result<&'a [u8], Broken> {
@@ -134,18 +172,46 @@ mod tests {
 
     #[test]
     fn the_unreadable_lines_of_the_formats() {
-        for line in ["found 0 16", "found 0 16 chain", "retire 03", "retire 3 ", "move 0 2 +1", "move 0 2 --1", ""] {
-            assert_eq!(Call::read(line.as_bytes()), Err(NoCall::Unreadable), "{line}");
+        for line in [
+            "found 0 16",
+            "found 0 16 chain",
+            "retire 03",
+            "retire 3 ",
+            "move 0 2 +1",
+            "move 0 2 --1",
+            "",
+        ] {
+            assert_eq!(
+                Call::read(line.as_bytes()),
+                Err(NoCall::Unreadable),
+                "{line}"
+            );
         }
     }
 
     #[test]
     fn the_readable_lines_of_the_formats() {
         let refused = |line: &str| Call::read(line.as_bytes()).err();
-        assert_eq!(refused("found 0 16 chain=07"), Some(NoCall::Refused(Cause::BrokenForm.at(7))));
-        assert_eq!(refused("fuse 0 1001 5 6 2 chain="), Some(NoCall::Refused(Cause::UnitTooHigh.at(0))));
-        assert_eq!(Call::read(b"retire 999999999"), Ok(Call::Retire { code: 999_999_999 }));
-        assert_eq!(Call::read(b"move 0 2 -0"), Ok(Call::Move { code: 0, adder: 2, amount: 0 }));
+        assert_eq!(
+            refused("found 0 16 chain=07"),
+            Some(NoCall::Refused(Cause::BrokenForm.at(7)))
+        );
+        assert_eq!(
+            refused("fuse 0 1001 5 6 2 chain="),
+            Some(NoCall::Refused(Cause::UnitTooHigh.at(0)))
+        );
+        assert_eq!(
+            Call::read(b"retire 999999999"),
+            Ok(Call::Retire { code: 999_999_999 })
+        );
+        assert_eq!(
+            Call::read(b"move 0 2 -0"),
+            Ok(Call::Move {
+                code: 0,
+                adder: 2,
+                amount: 0
+            })
+        );
     }
 
     #[test]

@@ -20,7 +20,12 @@ struct Options {
 
 impl Options {
     fn read(mut arguments: impl Iterator<Item = String>) -> Result<Self, Box<dyn Error>> {
-        let mut options = Options { crates: PathBuf::from("../crates"), workload: None, seed: 1, tries: 15 };
+        let mut options = Options {
+            crates: PathBuf::from("../crates"),
+            workload: None,
+            seed: 1,
+            tries: 15,
+        };
         while let Some(argument) = arguments.next() {
             let mut value = || arguments.next().ok_or(USAGE);
             match argument.as_str() {
@@ -55,15 +60,29 @@ fn run() -> Result<(), Box<dyn Error>> {
     let start = Instant::now();
     let program = Worker::at(&options.workload());
     let reference = Worker::at(&env::current_exe()?.with_file_name("workload"));
-    println!("{:<26}{:>14}{:>14}{:>12}", "work", "program", "reference", "ratio");
+    println!(
+        "{:<26}{:>14}{:>14}{:>12}",
+        "work", "program", "reference", "ratio"
+    );
     for work in works(options.seed) {
         check(&work, &program, &reference)?;
-        let [program, reference] = seconds_of_one(&work, [&program, &reference], options.tries.max(1))?;
+        let [program, reference] =
+            seconds_of_one(&work, [&program, &reference], options.tries.max(1))?;
         let ratio = format!("{:.2}", reference / program);
-        println!("{:<26}{:>14}{:>14}{ratio:>12}", work.name, shown(program), shown(reference));
+        println!(
+            "{:<26}{:>14}{:>14}{ratio:>12}",
+            work.name,
+            shown(program),
+            shown(reference)
+        );
     }
     println!("the ratio is the reference's time over the program's");
-    println!("seed {}, best of {}, {} s", options.seed, options.tries, start.elapsed().as_secs());
+    println!(
+        "seed {}, best of {}, {} s",
+        options.seed,
+        options.tries,
+        start.elapsed().as_secs()
+    );
     Ok(())
 }
 

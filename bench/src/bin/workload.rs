@@ -7,7 +7,10 @@ use reference::workload::perform;
 
 fn main() -> ExitCode {
     let mut input = Vec::new();
-    let answer = io::stdin().read_to_end(&mut input).map_err(Into::into).and_then(|_| perform(&input));
+    let answer = io::stdin()
+        .read_to_end(&mut input)
+        .map_err(Into::into)
+        .and_then(|_| perform(&input));
     match answer {
         Ok(line) => {
             print!("{line}");

@@ -16,7 +16,8 @@ impl Calls {
     pub fn of(script: &[u8], output: &[u8]) -> Self {
         let mut calls = Calls::default();
         for (line, answer) in lines(script).zip(lines(output)) {
-            let [line, answer] = [line, answer].map(|text| String::from_utf8_lossy(text).into_owned());
+            let [line, answer] =
+                [line, answer].map(|text| String::from_utf8_lossy(text).into_owned());
             if let Some(answer) = answer_to(&line, &answer) {
                 let kind = line.split(' ').next().unwrap_or_default();
                 *calls.counts.entry((kind.to_string(), answer)).or_default() += 1;
@@ -56,7 +57,9 @@ fn answer_to(line: &str, answer: &str) -> Option<String> {
         return Some("ok".to_string());
     }
     let (number, place) = answer.strip_prefix("fault=")?.split_once(" place=")?;
-    let adder = line.strip_prefix("move ").and_then(|words| words.split(' ').nth(1));
+    let adder = line
+        .strip_prefix("move ")
+        .and_then(|words| words.split(' ').nth(1));
     let whose = match (number, adder) {
         ("13", Some(_)) if place == "0" => " output",
         ("13", Some(adder)) if place == adder => " own",

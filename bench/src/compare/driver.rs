@@ -46,7 +46,8 @@ impl Outcome {
         self.agreed += other.agreed;
         self.differed += other.differed;
         self.tally.add(&other.tally);
-        let index = |first: &Option<Difference>| first.as_ref().map_or(usize::MAX, |first| first.index);
+        let index =
+            |first: &Option<Difference>| first.as_ref().map_or(usize::MAX, |first| first.index);
         if index(&other.first) < index(&self.first) {
             self.first = other.first;
         }
@@ -84,7 +85,10 @@ pub fn compare(families: &[Family], subject: &dyn Subject, plan: &Plan) -> Vec<O
             });
         }
     });
-    outcomes.into_iter().map(|outcome| outcome.into_inner().unwrap_or_default()).collect()
+    outcomes
+        .into_iter()
+        .map(|outcome| outcome.into_inner().unwrap_or_default())
+        .collect()
 }
 
 /// The inputs of all families, interleaved: where time runs out, it does so at
@@ -108,7 +112,13 @@ fn try_one(family: &Family, subject: &dyn Subject, seed: u64, task: Task) -> Out
     }
     let mut sum = Outcome::default();
     for line in crate::cursor::lines(&input) {
-        sum.add(judge(family, subject, task.index, &[line, b"\n"].concat(), 1));
+        sum.add(judge(
+            family,
+            subject,
+            task.index,
+            &[line, b"\n"].concat(),
+            1,
+        ));
     }
     if sum.differed == 0 {
         return whole;
@@ -116,14 +126,29 @@ fn try_one(family: &Family, subject: &dyn Subject, seed: u64, task: Task) -> Out
     Outcome { inputs: 1, ..sum }
 }
 
-fn judge(family: &Family, subject: &dyn Subject, index: usize, input: &[u8], cases: usize) -> Outcome {
+fn judge(
+    family: &Family,
+    subject: &dyn Subject,
+    index: usize,
+    input: &[u8],
+    cases: usize,
+) -> Outcome {
     let (program, reference) = both(family.program, subject, input);
-    let mut outcome = Outcome { inputs: 1, tally: Tally::of(family.program, input, &program), ..Outcome::default() };
+    let mut outcome = Outcome {
+        inputs: 1,
+        tally: Tally::of(family.program, input, &program),
+        ..Outcome::default()
+    };
     if program == reference {
         outcome.agreed = cases;
     } else {
         outcome.differed = cases;
-        outcome.first = Some(Difference { index, input: input.to_vec(), program, reference });
+        outcome.first = Some(Difference {
+            index,
+            input: input.to_vec(),
+            program,
+            reference,
+        });
     }
     outcome
 }
@@ -138,5 +163,84 @@ fn both(program: Program, subject: &dyn Subject, input: &[u8]) -> (Vec<u8>, Vec<
 /// A family's number is that of its name, so that adding a family leaves what
 /// the others draw (FNV-1a).
 fn hash(name: &str) -> u64 {
-    name.bytes().fold(0xcbf2_9ce4_8422_2325, |hash, byte| (hash ^ u64::from(byte)).wrapping_mul(0x100_0000_01b3))
+    name.bytes().fold(0xcbf2_9ce4_8422_2325, |hash, byte| {
+        (hash ^ u64::from(byte)).wrapping_mul(0x100_0000_01b3)
+    })
+}
+
+#[cfg(test)]
+mod tests {
+    use std::io;
+    use std::time::Duration;
+
+    use super::*;
+    use crate::compare::families;
+
+    /// Answers as the reference does, but for one number.
+    struct Turned {
+        number: &'static str,
+    }
+
+    impl Subject for Turned {
+        fn answer(&self, program: Program, input: &[u8]) -> io::Result<Vec<u8>> {
+            let answer = String::from_utf8_lossy(&program.run(input)).into_owned();
+            Ok(answer
+                .replace(&format!("fault={}\n", self.number), "fault=99\n")
+                .into_bytes())
+        }
+    }
+
+    fn outcomes(number: &'static str) -> Vec<(Family, Outcome)> {
+        let deadline = Instant::now() + Duration::from_secs(600);
+        let plan = Plan {
+            seed: 7,
+            percent: 1,
+            deadline,
+            threads: 1,
+            stops_at_first: false,
+        };
+        let is_quick = |family: &Family| {
+            ["lines", "readsheet"]
+                .iter()
+                .any(|name| family.name.starts_with(name))
+        };
+        let families: Vec<Family> = families::all().into_iter().filter(is_quick).collect();
+        let outcomes = compare(&families, &Turned { number }, &plan);
+        families.into_iter().zip(outcomes).collect()
+    }
+
+    #[test]
+    fn what_answers_alike_agrees() {
+        for (family, outcome) in outcomes("none") {
+            assert_eq!(
+                (outcome.differed, outcome.first.is_some()),
+                (0, false),
+                "{}",
+                family.name
+            );
+            assert!(outcome.agreed > 0, "{}", family.name);
+        }
+    }
+
+    #[test]
+    fn one_number_turned_is_caught_where_it_is_told() {
+        for number in ["13", "46"] {
+            let caught = |(_, outcome): &(Family, Outcome)| outcome.differed > 0;
+            assert!(outcomes(number).iter().any(caught), "{number}");
+        }
+    }
+
+    #[test]
+    fn a_line_that_differs_is_found_alone() {
+        for (family, outcome) in outcomes("16")
+            .iter()
+            .filter(|(family, _)| family.has_cases_by_line())
+        {
+            let Some(first) = &outcome.first else {
+                continue;
+            };
+            assert_eq!(family.cases(&first.input), 1);
+            assert!(outcome.agreed > outcome.differed);
+        }
+    }
 }

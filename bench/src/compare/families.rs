@@ -7,7 +7,7 @@ use crate::random::Random;
 pub struct Family {
     pub name: &'static str,
     pub program: Program,
-    pub draw: fn(&mut Random) -> Vec<u8>,
+    pub draw: Draw,
     /// How many inputs are drawn.
     pub inputs: usize,
 }
@@ -29,7 +29,7 @@ impl Family {
 
 const LINES: usize = 250;
 
-fn many_lines(random: &mut Random, line: fn(&mut Random) -> Vec<u8>) -> Vec<u8> {
+fn many_lines(random: &mut Random, line: Draw) -> Vec<u8> {
     let mut input = Vec::new();
     for _ in 0..LINES {
         input.extend(line(random));
@@ -42,36 +42,135 @@ fn many_lines(random: &mut Random, line: fn(&mut Random) -> Vec<u8>) -> Vec<u8> 
 }
 
 pub fn all() -> Vec<Family> {
-    let family = |name, program, inputs, draw| Family { name, program, draw, inputs };
-    vec![
-        family("lines valid", Program::Constants, 160, |random| many_lines(random, chains::valid_line)),
-        family("lines rules", Program::Constants, 240, |random| many_lines(random, chains::ruled_line)),
-        family("lines damaged", Program::Constants, 240, |random| many_lines(random, chains::damaged_line)),
-        family("lines lengths", Program::Constants, 160, |random| many_lines(random, chains::line_of_length)),
-        family("multiples", Program::Multiples, 2000, samples::multiples),
-        family("multiples damaged", Program::Multiples, 2000, samples::damaged_multiples),
-        family("products", Program::Products, 2500, samples::products),
-        family("products damaged", Program::Products, 2500, samples::damaged_products),
-        family("fusegen short", Program::FuseGen, 3000, generator::short),
-        family("fusegen long", Program::FuseGen, 60, generator::long),
-        family("fusegen full", Program::FuseGen, 40, generator::full),
-        family("fusegen damaged", Program::FuseGen, 4000, generator::damaged),
-        family("fusegen limits", Program::FuseGen, 1500, generator::limits),
-        family("readsheet valid", Program::ReadSheet, 3000, sheets::valid),
-        family("readsheet edited", Program::ReadSheet, 6000, sheets::edited),
-        family("readsheet damaged", Program::ReadSheet, 4000, sheets::damaged),
-        family("readsheet limits", Program::ReadSheet, 1000, sheets::limits),
-        family("price valid", Program::Price, 3000, |random| priced(random, sheets::valid)),
-        family("price edited", Program::Price, 3000, |random| priced(random, sheets::edited)),
-        family("price damaged", Program::Price, 3000, |random| priced(random, sheets::damaged)),
-        family("price limits", Program::Price, 1000, |random| priced(random, sheets::limits)),
-        family("replay small", Program::Replay, 150, |random| scripts::script(random, &scripts::SMALL)),
-        family("replay wide", Program::Replay, 120, |random| scripts::script(random, &scripts::WIDE)),
-        family("replay wild", Program::Replay, 1000, |random| scripts::script(random, &scripts::WILD)),
+    [
+        of_chains(),
+        of_samples(),
+        of_generators(),
+        of_sheets(),
+        of_prices(),
+        of_scripts(),
     ]
+    .into_iter()
+    .flatten()
+    .collect()
 }
 
-fn priced(random: &mut Random, sheet: fn(&mut Random) -> Vec<u8>) -> Vec<u8> {
+type Draw = fn(&mut Random) -> Vec<u8>;
+
+fn families<const N: usize>(
+    program: Program,
+    families: [(&'static str, usize, Draw); N],
+) -> Vec<Family> {
+    families
+        .into_iter()
+        .map(|(name, inputs, draw)| Family {
+            name,
+            program,
+            draw,
+            inputs,
+        })
+        .collect()
+}
+
+fn of_chains() -> Vec<Family> {
+    families(
+        Program::Constants,
+        [
+            ("lines valid", 160, |random| {
+                many_lines(random, chains::valid_line)
+            }),
+            ("lines rules", 240, |random| {
+                many_lines(random, chains::ruled_line)
+            }),
+            ("lines damaged", 240, |random| {
+                many_lines(random, chains::damaged_line)
+            }),
+            ("lines lengths", 160, |random| {
+                many_lines(random, chains::line_of_length)
+            }),
+        ],
+    )
+}
+
+fn of_samples() -> Vec<Family> {
+    let mut multiples = families(
+        Program::Multiples,
+        [
+            ("multiples", 2000, samples::multiples),
+            ("multiples damaged", 2000, samples::damaged_multiples),
+        ],
+    );
+    multiples.extend(families(
+        Program::Products,
+        [
+            ("products", 2500, samples::products),
+            ("products damaged", 2500, samples::damaged_products),
+        ],
+    ));
+    multiples
+}
+
+fn of_generators() -> Vec<Family> {
+    families(
+        Program::FuseGen,
+        [
+            ("fusegen short", 3000, generator::short),
+            ("fusegen long", 60, generator::long),
+            ("fusegen full", 40, generator::full),
+            ("fusegen damaged", 4000, generator::damaged),
+            ("fusegen limits", 1500, generator::limits),
+        ],
+    )
+}
+
+fn of_sheets() -> Vec<Family> {
+    families(
+        Program::ReadSheet,
+        [
+            ("readsheet valid", 3000, sheets::valid),
+            ("readsheet edited", 6000, sheets::edited),
+            ("readsheet damaged", 4000, sheets::damaged),
+            ("readsheet limits", 1000, sheets::limits),
+        ],
+    )
+}
+
+fn of_prices() -> Vec<Family> {
+    families(
+        Program::Price,
+        [
+            ("price valid", 3000, |random| priced(random, sheets::valid)),
+            ("price edited", 3000, |random| {
+                priced(random, sheets::edited)
+            }),
+            ("price damaged", 3000, |random| {
+                priced(random, sheets::damaged)
+            }),
+            ("price limits", 1000, |random| {
+                priced(random, sheets::limits)
+            }),
+        ],
+    )
+}
+
+fn of_scripts() -> Vec<Family> {
+    families(
+        Program::Replay,
+        [
+            ("replay small", 150, |random| {
+                scripts::script(random, &scripts::SMALL)
+            }),
+            ("replay wide", 120, |random| {
+                scripts::script(random, &scripts::WIDE)
+            }),
+            ("replay wild", 1000, |random| {
+                scripts::script(random, &scripts::WILD)
+            }),
+        ],
+    )
+}
+
+fn priced(random: &mut Random, sheet: Draw) -> Vec<u8> {
     let sheet = sheet(random);
     sheets::priced(random, sheet)
 }

@@ -24,11 +24,16 @@ pub struct Crates {
 
 impl Crates {
     pub fn in_folder(folder: &Path) -> Self {
-        Crates { folder: folder.to_path_buf() }
+        Crates {
+            folder: folder.to_path_buf(),
+        }
     }
 
     pub fn binary(&self, program: Program) -> PathBuf {
-        self.folder.join(program.name()).join("out").join(program.name())
+        self.folder
+            .join(program.name())
+            .join("out")
+            .join(program.name())
     }
 
     pub fn stored_input(&self, program: Program) -> PathBuf {
@@ -38,11 +43,15 @@ impl Crates {
 
 impl Subject for Crates {
     fn answer(&self, program: Program, input: &[u8]) -> io::Result<Vec<u8>> {
-        let Run { status, output, .. } = run(&mut Command::new(self.binary(program)), input, |_| ())?;
+        let Run { status, output, .. } =
+            run(&mut Command::new(self.binary(program)), input, |_| ())?;
         if status.success() {
             Ok(output)
         } else {
-            Err(io::Error::other(format!("{} ended with {status}", program.name())))
+            Err(io::Error::other(format!(
+                "{} ended with {status}",
+                program.name()
+            )))
         }
     }
 }
@@ -57,8 +66,15 @@ pub struct Run<T> {
 
 /// Runs a command on an input. Input and output each have a thread, since a
 /// program may write before it has read all.
-pub fn run<T>(command: &mut Command, input: &[u8], ask: impl FnOnce(&Child) -> T) -> io::Result<Run<T>> {
-    let mut child = command.stdin(Stdio::piped()).stdout(Stdio::piped()).spawn()?;
+pub fn run<T>(
+    command: &mut Command,
+    input: &[u8],
+    ask: impl FnOnce(&Child) -> T,
+) -> io::Result<Run<T>> {
+    let mut child = command
+        .stdin(Stdio::piped())
+        .stdout(Stdio::piped())
+        .spawn()?;
     let (stdin, stdout) = (child.stdin.take(), child.stdout.take());
     let input = input.to_vec();
     // A program that stops reading has its output compared all the same.
@@ -67,7 +83,11 @@ pub fn run<T>(command: &mut Command, input: &[u8], ask: impl FnOnce(&Child) -> T
     let asked = ask(&child);
     let status = child.wait()?;
     let _ = writer.join();
-    Ok(Run { status, output: output?, asked })
+    Ok(Run {
+        status,
+        output: output?,
+        asked,
+    })
 }
 
 fn read_all(child: &mut Child, stdout: Option<ChildStdout>) -> io::Result<Vec<u8>> {

@@ -5,8 +5,9 @@ use crate::programs::Program;
 
 /// Every number of REFUSALS.md that a program can give. 27 and 31 are causes
 /// against buffers, which no program hands over.
-pub const NUMBERS: [usize; 22] =
-    [11, 12, 13, 14, 15, 16, 20, 21, 22, 23, 24, 25, 26, 28, 29, 40, 41, 42, 43, 44, 45, 46];
+pub const NUMBERS: [usize; 22] = [
+    11, 12, 13, 14, 15, 16, 20, 21, 22, 23, 24, 25, 26, 28, 29, 40, 41, 42, 43, 44, 45, 46,
+];
 
 #[derive(Clone, Debug)]
 pub struct Tally {
@@ -23,7 +24,14 @@ pub struct Tally {
 
 impl Default for Tally {
     fn default() -> Self {
-        Tally { done: 0, turned_down: 0, unreadable: 0, numbers: [0; 100], carried: [0; 100], calls: Calls::default() }
+        Tally {
+            done: 0,
+            turned_down: 0,
+            unreadable: 0,
+            numbers: [0; 100],
+            carried: [0; 100],
+            calls: Calls::default(),
+        }
     }
 }
 

@@ -21,11 +21,18 @@ pub fn any(random: &mut Random) -> Block {
 
 /// Sixteen live codes, each with a row of eight adders.
 pub fn full(random: &mut Random) -> Block {
-    of(random, MOST_ADDERS, CODES, |random| chains::valid(random, MOST_ADDERS, 3))
+    of(random, MOST_ADDERS, CODES, |random| {
+        chains::valid(random, MOST_ADDERS, 3)
+    })
 }
 
 /// A block of so many adders and live codes, with a chain drawn for each.
-fn of(random: &mut Random, adders: usize, live: usize, mut chain: impl FnMut(&mut Random) -> Chain) -> Block {
+fn of(
+    random: &mut Random,
+    adders: usize,
+    live: usize,
+    mut chain: impl FnMut(&mut Random) -> Chain,
+) -> Block {
     let width = random.between(1, 32) as u64;
     let mut block = Block::bare(adders, width).unwrap_or_else(|_| Block::unfounded());
     let mut codes: Vec<usize> = (0..CODES).collect();

@@ -21,26 +21,45 @@ fn attempt(random: &mut Random, count: usize, reach: u8) -> Option<Chain> {
     let mut unread: Vec<u8> = Vec::new();
     for number in 1..=count {
         let allowed = |adder: &Adder| {
-            let left_over = unread.iter().filter(|&&source| !adder.reads(source.into())).count();
+            let left_over = unread
+                .iter()
+                .filter(|&&source| !adder.reads(source.into()))
+                .count();
             left_over <= count - number && adder.value(&values).is_some()
         };
-        let adder = (0..40).map(|_| adder(random, &values, &unread, reach)).find(allowed)?;
+        let adder = (0..40)
+            .map(|_| adder(random, &values, &unread, reach))
+            .find(allowed)?;
         values.push(adder.value(&values)?);
         unread.retain(|&source| !adder.reads(source.into()));
         unread.push(number as u8);
         adders.push(adder);
     }
-    let highest = (0..=30).rev().find(|&shift| values[count] << shift <= LARGEST_VALUE)?;
-    let shift = if random.chance(5) { highest } else { shift(random, reach).min(highest) };
+    let highest = (0..=30)
+        .rev()
+        .find(|&shift| values[count] << shift <= LARGEST_VALUE)?;
+    let shift = if random.chance(5) {
+        highest
+    } else {
+        shift(random, reach).min(highest)
+    };
     Chain::new(adders, shift).ok()
 }
 
 fn adder(random: &mut Random, values: &[Value], unread: &[u8], reach: u8) -> Adder {
     let left = operand(random, values.len(), unread, reach);
     let right = operand(random, values.len(), unread, reach);
-    let sign = if random.chance(30) { Sign::Minus } else { Sign::Plus };
+    let sign = if random.chance(30) {
+        Sign::Minus
+    } else {
+        Sign::Plus
+    };
     if random.chance(5) {
-        return Adder { left: steep(left, values), sign: Sign::Minus, right: steep(right, values) };
+        return Adder {
+            left: steep(left, values),
+            sign: Sign::Minus,
+            right: steep(right, values),
+        };
     }
     Adder { left, sign, right }
 }
@@ -50,7 +69,10 @@ fn adder(random: &mut Random, values: &[Value], unread: &[u8], reach: u8) -> Add
 /// every shift in its range can take them out of theirs.
 fn steep(operand: Operand, values: &[Value]) -> Operand {
     let fits = |&shift: &u8| values[usize::from(operand.source)] << shift <= LARGEST_VALUE;
-    Operand { shift: (0..=30).rev().find(fits).unwrap_or(0), ..operand }
+    Operand {
+        shift: (0..=30).rev().find(fits).unwrap_or(0),
+        ..operand
+    }
 }
 
 fn operand(random: &mut Random, number: usize, unread: &[u8], reach: u8) -> Operand {
@@ -102,7 +124,11 @@ pub fn ruled_line(random: &mut Random) -> Vec<u8> {
 }
 
 fn break_rule(random: &mut Random, adders: &mut Vec<Adder>, shift: &mut u8) {
-    let added = Adder { left: any_operand(random), sign: Sign::Plus, right: any_operand(random) };
+    let added = Adder {
+        left: any_operand(random),
+        sign: Sign::Plus,
+        right: any_operand(random),
+    };
     if adders.is_empty() || random.chance(10) {
         *shift = random.between(0, 40) as u8;
         adders.extend((0..random.below(4)).map(|_| added));
@@ -111,7 +137,11 @@ fn break_rule(random: &mut Random, adders: &mut Vec<Adder>, shift: &mut u8) {
     let at = random.below(adders.len());
     let is_left = random.chance(50);
     let adder = &mut adders[at];
-    let operand = if is_left { &mut adder.left } else { &mut adder.right };
+    let operand = if is_left {
+        &mut adder.left
+    } else {
+        &mut adder.right
+    };
     match random.below(9) {
         0 => operand.source = random.pick(&[at as u8, at as u8 + 1, at as u8 + 2, 8, 9, 99]),
         1 => operand.shift = random.pick(&[29, 30, 31, 32, 99]),
@@ -128,12 +158,19 @@ fn break_rule(random: &mut Random, adders: &mut Vec<Adder>, shift: &mut u8) {
 }
 
 fn any_operand(random: &mut Random) -> Operand {
-    Operand::new(random.pick(&[0, 0, 0, 1, 2, 9]), random.pick(&[0, 0, 1, 5, 30, 31]))
+    Operand::new(
+        random.pick(&[0, 0, 0, 1, 2, 9]),
+        random.pick(&[0, 0, 1, 5, 30, 31]),
+    )
 }
 
 /// A line with some bytes edited.
 pub fn damaged_line(random: &mut Random) -> Vec<u8> {
-    let mut line = if random.chance(30) { ruled_line(random) } else { valid_line(random) };
+    let mut line = if random.chance(30) {
+        ruled_line(random)
+    } else {
+        valid_line(random)
+    };
     let edits = random.between(1, 2);
     damage::bytes(random, &mut line, edits);
     line.retain(|&byte| byte != b'\n');

@@ -67,7 +67,12 @@ pub fn limits(random: &mut Random) -> Vec<u8> {
     if random.chance(70) {
         let length = random.between(4094, 4098);
         let filler: &[u8] = random.pick(&[b"\n" as &[u8], b"chain=0\n", b"x"]);
-        text.extend(filler.iter().cycle().take(length.saturating_sub(text.len())));
+        text.extend(
+            filler
+                .iter()
+                .cycle()
+                .take(length.saturating_sub(text.len())),
+        );
     }
     text
 }
@@ -91,7 +96,11 @@ fn width(random: &mut Random) -> Vec<u8> {
 }
 
 fn any_width(random: &mut Random) -> Vec<u8> {
-    let width = random.pick(&["0", "1", "32", "33", "99", "100", "07", "00", "", "16 ", "+1", "1a"]);
-    let key = random.pick(&["width=", "width=", "width=", "width=", "Width=", "width", "adders="]);
+    let width = random.pick(&[
+        "0", "1", "32", "33", "99", "100", "07", "00", "", "16 ", "+1", "1a",
+    ]);
+    let key = random.pick(&[
+        "width=", "width=", "width=", "width=", "Width=", "width", "adders=",
+    ]);
     format!("{key}{width}").into_bytes()
 }

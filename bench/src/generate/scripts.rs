@@ -23,12 +23,30 @@ pub struct Plan {
     pub placements: usize,
 }
 
-pub const SMALL: Plan =
-    Plan { least_adders: 0, most_adders: 3, least_calls: 300, most_calls: 2500, wild: 8, placements: 200_000 };
-pub const WIDE: Plan =
-    Plan { least_adders: 4, most_adders: 8, least_calls: 150, most_calls: 600, wild: 8, placements: 150_000 };
-pub const WILD: Plan =
-    Plan { least_adders: 0, most_adders: 4, least_calls: 0, most_calls: 500, wild: 60, placements: 60_000 };
+pub const SMALL: Plan = Plan {
+    least_adders: 0,
+    most_adders: 3,
+    least_calls: 300,
+    most_calls: 2500,
+    wild: 8,
+    placements: 200_000,
+};
+pub const WIDE: Plan = Plan {
+    least_adders: 4,
+    most_adders: 8,
+    least_calls: 150,
+    most_calls: 600,
+    wild: 8,
+    placements: 150_000,
+};
+pub const WILD: Plan = Plan {
+    least_adders: 0,
+    most_adders: 4,
+    least_calls: 0,
+    most_calls: 500,
+    wild: 60,
+    placements: 60_000,
+};
 
 struct Script {
     adders: usize,
@@ -39,7 +57,12 @@ struct Script {
 }
 
 pub fn script(random: &mut Random, plan: &Plan) -> Vec<u8> {
-    let mut script = Script { adders: 0, live: [false; CODES], reach: chains::reach(random), room: plan.placements };
+    let mut script = Script {
+        adders: 0,
+        live: [false; CODES],
+        reach: chains::reach(random),
+        room: plan.placements,
+    };
     let mut lines = Vec::new();
     for index in 0..random.between(plan.least_calls, plan.most_calls) {
         let wild = random.chance(plan.wild);
@@ -70,7 +93,8 @@ impl Script {
                 self.live[code as usize] = true;
             }
             Ok(Call::Fuse { chain, code, .. }) if code < 16 && !self.live[code as usize] => {
-                let placements = place_lists(&chain, self.adders).len() * swap_lists(&chain).count();
+                let placements =
+                    place_lists(&chain, self.adders).len() * swap_lists(&chain).count();
                 if placements > self.room / 4 {
                     return false;
                 }
@@ -95,20 +119,41 @@ impl Script {
         self.reach = chains::reach(random);
         if wild {
             let (code, width) = (any_number(random), any_number(random));
-            return [format!("found {code} {width} ").into_bytes(), chains::any_line(random)].concat();
+            return [
+                format!("found {code} {width} ").into_bytes(),
+                chains::any_line(random),
+            ]
+            .concat();
         }
         let adders = random.between(plan.least_adders, plan.most_adders);
         let chain = chains::valid(random, adders, self.reach);
-        format!("found {} {} {chain}", random.below(CODES), random.between(1, 32)).into_bytes()
+        format!(
+            "found {} {} {chain}",
+            random.below(CODES),
+            random.between(1, 32)
+        )
+        .into_bytes()
     }
 
     fn fuse(&mut self, random: &mut Random, wild: bool) -> Vec<u8> {
-        let list = if random.chance(40) { "count".to_string() } else { sheets::four_units(random) };
+        let list = if random.chance(40) {
+            "count".to_string()
+        } else {
+            sheets::four_units(random)
+        };
         if wild {
-            return [format!("fuse {} {list} ", any_number(random)).into_bytes(), chains::any_line(random)].concat();
+            return [
+                format!("fuse {} {list} ", any_number(random)).into_bytes(),
+                chains::any_line(random),
+            ]
+            .concat();
         }
         let code = self.code(random, false);
-        let count = if random.chance(3) { self.adders + 1 } else { chains::count(random, self.adders) };
+        let count = if random.chance(3) {
+            self.adders + 1
+        } else {
+            chains::count(random, self.adders)
+        };
         let chain = chains::valid(random, count.min(8), self.reach);
         format!("fuse {code} {list} {chain}").into_bytes()
     }
@@ -122,7 +167,11 @@ impl Script {
 
     fn shift(&mut self, random: &mut Random, wild: bool) -> Vec<u8> {
         let code = self.code(random, true);
-        let adder = if random.chance(95) { random.between(1, self.adders.max(1)) } else { random.below(10) };
+        let adder = if random.chance(95) {
+            random.between(1, self.adders.max(1))
+        } else {
+            random.below(10)
+        };
         let amount = match random.below(12) {
             0 => random.below(61) as i64 - 30,
             1 => random.pick(&[-31, -30, 30, 31]),
@@ -130,7 +179,11 @@ impl Script {
         };
         if wild {
             let amount = any_number(random);
-            return format!("move {code} {adder} {}{amount}", random.pick(&["", "", "-"])).into_bytes();
+            return format!(
+                "move {code} {adder} {}{amount}",
+                random.pick(&["", "", "-"])
+            )
+            .into_bytes();
         }
         format!("move {code} {adder} {amount}").into_bytes()
     }
@@ -150,7 +203,18 @@ fn any_number(random: &mut Random) -> String {
     match random.below(8) {
         0 => random.between(14, 18).to_string(),
         1 => random.between(30, 34).to_string(),
-        2 => random.pick(&["00", "07", "", "999999999", "1000000000", "4294967296", "-1", "+1"]).to_string(),
+        2 => random
+            .pick(&[
+                "00",
+                "07",
+                "",
+                "999999999",
+                "1000000000",
+                "4294967296",
+                "-1",
+                "+1",
+            ])
+            .to_string(),
         _ => random.below(16).to_string(),
     }
 }

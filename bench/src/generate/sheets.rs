@@ -35,7 +35,10 @@ pub fn edited(random: &mut Random) -> Vec<u8> {
 /// Edits of bytes and of whole lines.
 pub fn damaged(random: &mut Random) -> Vec<u8> {
     let sheet = valid(random);
-    let mut lines: Vec<Vec<u8>> = sheet.split(|&byte| byte == b'\n').map(<[u8]>::to_vec).collect();
+    let mut lines: Vec<Vec<u8>> = sheet
+        .split(|&byte| byte == b'\n')
+        .map(<[u8]>::to_vec)
+        .collect();
     lines.pop();
     match random.below(4) {
         0 => damage::lines(random, &mut lines),
@@ -60,11 +63,24 @@ pub fn damaged(random: &mut Random) -> Vec<u8> {
 
 /// About 4,096 bytes, most of which are no sheet.
 pub fn limits(random: &mut Random) -> Vec<u8> {
-    let mut sheet = if random.chance(70) { valid(random) } else { edited(random) };
+    let mut sheet = if random.chance(70) {
+        valid(random)
+    } else {
+        edited(random)
+    };
     let length = random.between(4094, 4098).max(sheet.len());
     let filler: &[u8] = random.pick(&[b"\n" as &[u8], b"s15=0\n", b"0.0 ", b"0"]);
-    let at = if random.chance(60) { sheet.len() } else { random.below(sheet.len() + 1) };
-    let filling: Vec<u8> = filler.iter().copied().cycle().take(length - sheet.len()).collect();
+    let at = if random.chance(60) {
+        sheet.len()
+    } else {
+        random.below(sheet.len() + 1)
+    };
+    let filling: Vec<u8> = filler
+        .iter()
+        .copied()
+        .cycle()
+        .take(length - sheet.len())
+        .collect();
     sheet.splice(at..at, filling);
     sheet
 }
@@ -92,7 +108,12 @@ pub fn units(random: &mut Random) -> Vec<u8> {
 pub fn four_units(random: &mut Random) -> String {
     let most = random.pick(&[0, 3, 9, 100, 1000]);
     let [one, other, more, two_way] = [most, most, 30, most].map(|most| random.between(0, most));
-    let mut units = [one, other, one.max(other).saturating_add(more).min(1000), two_way];
+    let mut units = [
+        one,
+        other,
+        one.max(other).saturating_add(more).min(1000),
+        two_way,
+    ];
     if random.chance(6) {
         units[random.below(4)] = random.pick(&[0, 1000, 1001, 999_999_999, 1_000_000_000]);
     }
@@ -114,7 +135,10 @@ impl Sheet {
         let mut lines = text.lines().map(str::to_string);
         let head = [lines.next(), lines.next()].map(Option::unwrap_or_default);
         let parts = lines.map(|line| match line.split_once('=') {
-            Some((key, rest)) => (key.to_string(), rest.split_whitespace().map(str::to_string).collect()),
+            Some((key, rest)) => (
+                key.to_string(),
+                rest.split_whitespace().map(str::to_string).collect(),
+            ),
             None => (line, Vec::new()),
         });
         let (codes, ports) = parts.partition(|(key, _)| key.starts_with('s'));
@@ -131,8 +155,18 @@ impl Sheet {
 
     fn edit(&mut self, random: &mut Random) {
         match random.below(12) {
-            0 => self.head[0] = format!("adders={}", random.pick(&["0", "1", "7", "8", "9", "10", "99", "08", "100", ""])),
-            1 => self.head[1] = format!("width={}", random.pick(&["0", "1", "32", "33", "99", "016", "-1", ""])),
+            0 => {
+                self.head[0] = format!(
+                    "adders={}",
+                    random.pick(&["0", "1", "7", "8", "9", "10", "99", "08", "100", ""])
+                )
+            }
+            1 => {
+                self.head[1] = format!(
+                    "width={}",
+                    random.pick(&["0", "1", "32", "33", "99", "016", "-1", ""])
+                )
+            }
             2..=5 => self.edit_port(random),
             _ => self.edit_code(random),
         }
@@ -172,7 +206,11 @@ impl Sheet {
             2 => {
                 self.codes.remove(at);
             }
-            3 => self.codes[at].0 = random.pick(&["s00", "s15", "s16", "s99", "s1", "s007", "s08"]).to_string(),
+            3 => {
+                self.codes[at].0 = random
+                    .pick(&["s00", "s15", "s16", "s99", "s1", "s007", "s08"])
+                    .to_string()
+            }
             4 => {
                 let mut again = self.codes[at].clone();
                 again.0 = format!("s{:02}", last + 1);
@@ -185,7 +223,11 @@ impl Sheet {
 
 /// An input whose source is mostly below a bound.
 fn input(random: &mut Random, bound: usize) -> String {
-    let source = if random.chance(95) { random.below(bound) } else { random.pick(&[8, 9, 99]) };
+    let source = if random.chance(95) {
+        random.below(bound)
+    } else {
+        random.pick(&[8, 9, 99])
+    };
     let shift = random.pick(&[0, 1, 2, 3, 5, 10, 20, 28, 29, 30, 31]);
     format!("{source}.{shift}")
 }
@@ -193,13 +235,15 @@ fn input(random: &mut Random, bound: usize) -> String {
 /// Fills a port up to sixteen inputs, or one more, or one less.
 fn fill(random: &mut Random, inputs: &mut Vec<String>) {
     let count = random.between(15, 17);
-    let free = (0..31).map(|shift| format!("0.{shift}")).filter(|input| !inputs.contains(input));
+    let free = (0..31)
+        .map(|shift| format!("0.{shift}"))
+        .filter(|input| !inputs.contains(input));
     let free: Vec<String> = free.collect();
     inputs.extend(free.into_iter().take(count.saturating_sub(inputs.len())));
 }
 
 /// Turns an entry of a code line, or the number at its end.
-fn edit_entry(random: &mut Random, entries: &mut Vec<String>) {
+fn edit_entry(random: &mut Random, entries: &mut [String]) {
     if entries.is_empty() {
         return;
     }

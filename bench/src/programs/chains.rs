@@ -42,7 +42,10 @@ fn first_chain(line: Option<(&[u8], usize)>) -> Result<Row, Fault> {
 
 fn multiple(row: &Row, sample: i64) -> String {
     let word = Word(sample);
-    let residues = Frame(Residue::<255>::from_integer(sample), Residue::<257>::from_integer(sample));
+    let residues = Frame(
+        Residue::<255>::from_integer(sample),
+        Residue::<257>::from_integer(sample),
+    );
     let framed = run(row, Frame(word, residues));
     let word = run(row, word).0;
     let (mod255, mod257) = (run(row, residues.0).0, run(row, residues.1).0);
@@ -73,19 +76,34 @@ struct Head {
 /// Writes what is printed; the fault that it answers is the last to be told.
 fn products_into(input: &[u8], text: &mut String) -> Result<(), Fault> {
     let mut lines = lines(input).zip(1..);
-    let Head { chain, code, adder, amount } = head(&mut lines)?;
+    let Head {
+        chain,
+        code,
+        adder,
+        amount,
+    } = head(&mut lines)?;
     let mut block = Block::unfounded();
-    block.found(&chain, code, 32).map_err(|refusal| refusal.on(2))?;
+    block
+        .found(&chain, code, 32)
+        .map_err(|refusal| refusal.on(2))?;
     *text += &format!("constant={}\n", chain.constant());
     let before = block.clone();
     if let Err(refusal) = block.move_shifts(code, adder, amount) {
-        let line = if refusal.cause == Cause::AdderUnused { 3 } else { 4 };
+        let line = if refusal.cause == Cause::AdderUnused {
+            3
+        } else {
+            4
+        };
         *text += &refusal.on(line).to_string();
     }
     for (line, number) in lines {
         *text += &match integer(line, number) {
             Ok(sample) => {
-                let product = |block: &Block| block.row(code as usize).map_or(0, |row| run(row, Word(sample)).0);
+                let product = |block: &Block| {
+                    block
+                        .row(code as usize)
+                        .map_or(0, |row| run(row, Word(sample)).0)
+                };
                 format!("before={}\nafter={}\n", product(&before), product(&block))
             }
             Err(fault) => fault.to_string(),
@@ -104,5 +122,10 @@ fn head<'a>(lines: &mut impl Iterator<Item = (&'a [u8], usize)>) -> Result<Head,
     // A number below 0 names no code and no adder, as one above all of them.
     let code = u64::try_from(next(2)?).unwrap_or(u64::MAX);
     let adder = u64::try_from(next(3)?).unwrap_or(u64::MAX);
-    Ok(Head { chain, code, adder, amount: next(4)? })
+    Ok(Head {
+        chain,
+        code,
+        adder,
+        amount: next(4)?,
+    })
 }

@@ -62,7 +62,10 @@ impl Fault {
 
 impl Refusal {
     pub fn on(self, line: usize) -> Fault {
-        Fault { refusal: self, line }
+        Fault {
+            refusal: self,
+            line,
+        }
     }
 }
 

@@ -30,9 +30,12 @@ pub fn generated(input: &[u8]) -> Result<Block, Fault> {
     let mut block = Block::unfounded();
     let (line, number) = lines.next().ok_or(Fault::missing(2))?;
     let chain = Chain::read(line).map_err(|refusal| refusal.on(number))?;
-    block.found(&chain, 0, u64::from(width)).map_err(|refusal| refusal.on(number))?;
+    block
+        .found(&chain, 0, u64::from(width))
+        .map_err(|refusal| refusal.on(number))?;
     for ((line, number), code) in lines.zip(1..) {
-        let fused = Chain::read(line).and_then(|chain| fuse(&mut block, &chain, code, PriceList::Count));
+        let fused =
+            Chain::read(line).and_then(|chain| fuse(&mut block, &chain, code, PriceList::Count));
         fused.map_err(|refusal| refusal.on(number))?;
     }
     Ok(block)
@@ -46,7 +49,9 @@ pub fn replay(input: &[u8]) -> Vec<u8> {
         text += &match made {
             Ok(None) => "ok\n".to_string(),
             Ok(Some(price)) => format!("ok price={price}\n"),
-            Err(NoCall::Refused(refusal)) => format!("fault={} place={}\n", refusal.cause.number(), refusal.place),
+            Err(NoCall::Refused(refusal)) => {
+                format!("fault={} place={}\n", refusal.cause.number(), refusal.place)
+            }
             Err(NoCall::Unreadable) => "unreadable\n".to_string(),
         };
     }
@@ -69,13 +74,18 @@ mod tests {
                      s00=0+1 0+1 0\ns01=0+0 0+0 0\n";
         assert_eq!(text(super::fuse_gen(input.as_bytes())), sheet);
         let input = "width=16\nchain=0.0+0.2 0\nchain=0.0+0.1 1.0+0.4 0\n";
-        assert_eq!(text(super::fuse_gen(input.as_bytes())), "fault=22\nline=3\nplace=0\n");
+        assert_eq!(
+            text(super::fuse_gen(input.as_bytes())),
+            "fault=22\nline=3\nplace=0\n"
+        );
     }
 
     #[test]
     fn the_script_of_the_formats() {
-        let input = "found 0 16 chain=0.1+0.2 0\nfuse 1 count chain=0.0+0.2 1\nmove 1 1 2\nretire 5\n";
-        let output = "ok\nok price=2\nfault=13 place=0\nfault=23 place=0\nsheet\nadders=1\nwidth=16\n\
+        let input =
+            "found 0 16 chain=0.1+0.2 0\nfuse 1 count chain=0.0+0.2 1\nmove 1 1 2\nretire 5\n";
+        let output =
+            "ok\nok price=2\nfault=13 place=0\nfault=23 place=0\nsheet\nadders=1\nwidth=16\n\
                       1L=0.0 0.1\n1R=0.2\nout=1.0 1.1\ns00=1+0 0\ns01=0+0 1\n";
         assert_eq!(text(super::replay(input.as_bytes())), output);
     }

@@ -21,8 +21,12 @@ pub fn read_sheet(input: &[u8]) -> Vec<u8> {
 }
 
 fn constants_and_depth(block: &Block) -> String {
-    let constants = block.live_codes().map(|(code, row)| format!("s{code:02}={}\n", row.constant()));
-    constants.chain([format!("depth={}\n", depth(block))]).collect()
+    let constants = block
+        .live_codes()
+        .map(|(code, row)| format!("s{code:02}={}\n", row.constant()));
+    constants
+        .chain([format!("depth={}\n", depth(block))])
+        .collect()
 }
 
 pub fn price(input: &[u8]) -> Vec<u8> {
@@ -32,7 +36,8 @@ pub fn price(input: &[u8]) -> Vec<u8> {
 
 fn priced(input: &[u8]) -> Result<String, Fault> {
     let mut parts = input.splitn(2, |&byte| byte == b'\n');
-    let units = UnitPrices::read(parts.next().unwrap_or_default()).map_err(|refusal| refusal.on(1))?;
+    let units =
+        UnitPrices::read(parts.next().unwrap_or_default()).map_err(|refusal| refusal.on(1))?;
     let sheet = parts.next().ok_or(Cause::SheetForm.at(1).on(2))?;
     let block = sheet::read(sheet).map_err(|refusal| match refusal.cause {
         Cause::SheetTooLong => refusal.cause.at(0).on(0),
@@ -46,11 +51,15 @@ fn report(block: &Block, units: UnitPrices) -> String {
     for port in Port::of(block.adders()) {
         if let Port::Left(number) = port {
             let part = AdderPart::at(block, number);
-            let part = part.map_or("-".to_string(), |part| format!("{} {}", part.kind, part.width));
+            let part = part.map_or("-".to_string(), |part| {
+                format!("{} {}", part.kind, part.width)
+            });
             text += &format!("a{number}={part}\n");
         }
         let part = Multiplexer::at(block, port);
-        let part = part.map_or("-".to_string(), |part| format!("{} {}", part.inputs, part.width));
+        let part = part.map_or("-".to_string(), |part| {
+            format!("{} {}", part.inputs, part.width)
+        });
         text += &format!("{port}={part}\n");
     }
     text += &format!("count={}\n", price::price(block, PriceList::Count));
@@ -76,12 +85,18 @@ mod tests {
     #[test]
     fn a_sheet_is_told_one_line_further_down() {
         let repeated = SHEET.replace("1R=0.2 0.1", "1R=0.2 0.2");
-        assert_eq!(price(&format!("units=4 5 6 2\n{repeated}")), "fault=43\nline=5\nplace=4\n");
+        assert_eq!(
+            price(&format!("units=4 5 6 2\n{repeated}")),
+            "fault=43\nline=5\nplace=4\n"
+        );
         assert_eq!(price("units=4 5 6 2"), "fault=41\nline=2\nplace=1\n");
     }
 
     #[test]
     fn constants_and_depth_of_the_formats() {
-        assert_eq!(super::read_sheet(SHEET.as_bytes()), b"s00=45\ns01=19\ndepth=4\n");
+        assert_eq!(
+            super::read_sheet(SHEET.as_bytes()),
+            b"s00=45\ns01=19\ndepth=4\n"
+        );
     }
 }

@@ -33,8 +33,16 @@ impl From<Broken> for Fault {
 impl Fault {
     fn at(self, line: usize) -> SheetRefusal {
         match self {
-            Fault::Cause(cause) => SheetRefusal { cause, line, row: None },
-            Fault::Row(refusal) => SheetRefusal { cause: Cause::RowBroken, line, row: Some(refusal) },
+            Fault::Cause(cause) => SheetRefusal {
+                cause,
+                line,
+                row: None,
+            },
+            Fault::Row(refusal) => SheetRefusal {
+                cause: Cause::RowBroken,
+                line,
+                row: Some(refusal),
+            },
         }
     }
 }
@@ -49,7 +57,10 @@ struct PortLine {
 impl PortLine {
     fn select(&mut self, number: u8) -> Result<Operand, Fault> {
         let number = usize::from(number);
-        let input = *self.inputs.get(number).ok_or(Fault::Cause(Cause::InputAbsent))?;
+        let input = *self
+            .inputs
+            .get(number)
+            .ok_or(Fault::Cause(Cause::InputAbsent))?;
         self.selected[number] = true;
         Ok(input)
     }
@@ -75,14 +86,22 @@ pub fn read(sheet: &[u8]) -> Result<Block, SheetRefusal> {
         ports.push(port_line(&mut cursor, port, adders).map_err(|fault| fault.at(line))?);
         line += 1;
     }
-    let mut block = Block::bare(adders, width).map_err(|_| Fault::Cause(Cause::SheetLimit).at(2))?;
+    let mut block =
+        Block::bare(adders, width).map_err(|_| Fault::Cause(Cause::SheetLimit).at(2))?;
     let mut lowest = 0;
     while !cursor.is_at_end() {
-        let code = add_row(&mut cursor, &mut ports, &mut block, lowest).map_err(|fault| fault.at(line))?;
+        let code =
+            add_row(&mut cursor, &mut ports, &mut block, lowest).map_err(|fault| fault.at(line))?;
         lowest = code + 1;
         line += 1;
     }
-    match ports.iter().position(|port| port.selected.contains(&false)) {
+    let mut lines = (0..ports.len()).filter(|&index| ports[index].selected.contains(&false));
+    let unselected = if planted::is(Plant::LastUnselected) {
+        lines.next_back()
+    } else {
+        lines.next()
+    };
+    match unselected {
         Some(index) => Err(Fault::Cause(Cause::InputUnselected).at(index + 3)),
         None => Ok(block),
     }
@@ -131,7 +150,11 @@ fn port_line(cursor: &mut Cursor, port: Port, adders: usize) -> Result<PortLine,
         return Err(Fault::Cause(Cause::InputRepeated));
     }
     let selected = vec![false; inputs.len()];
-    Ok(PortLine { port, inputs, selected })
+    Ok(PortLine {
+        port,
+        inputs,
+        selected,
+    })
 }
 
 fn is_allowed(input: Operand, port: Port, adders: usize) -> bool {
@@ -143,7 +166,12 @@ fn is_allowed(input: Operand, port: Port, adders: usize) -> bool {
 }
 
 /// Reads a code line and puts its row into the block.
-fn add_row(cursor: &mut Cursor, ports: &mut [PortLine], block: &mut Block, lowest: u8) -> Result<u8, Fault> {
+fn add_row(
+    cursor: &mut Cursor,
+    ports: &mut [PortLine],
+    block: &mut Block,
+    lowest: u8,
+) -> Result<u8, Fault> {
     let line = code_line(cursor, block.adders())?;
     if line.code < lowest || usize::from(line.code) >= CODES {
         return Err(Fault::Cause(Cause::SheetForm));
@@ -157,10 +185,16 @@ fn code_line(cursor: &mut Cursor, adders: usize) -> Result<CodeLine, Broken> {
     cursor.byte(b's')?;
     let code = cursor.digit()? * 10 + cursor.digit()?;
     cursor.byte(b'=')?;
-    let entries = (0..adders).map(|_| entry(cursor)).collect::<Result<_, _>>()?;
+    let entries = (0..adders)
+        .map(|_| entry(cursor))
+        .collect::<Result<_, _>>()?;
     let output = cursor.short()?;
     cursor.byte(b'\n')?;
-    Ok(CodeLine { code, entries, output })
+    Ok(CodeLine {
+        code,
+        entries,
+        output,
+    })
 }
 
 fn entry(cursor: &mut Cursor) -> Result<Option<(u8, Sign, u8)>, Broken> {
@@ -179,12 +213,20 @@ fn selected_row(line: &CodeLine, ports: &mut [PortLine]) -> Result<Row, Fault> {
     for port in ports {
         match port.port {
             Port::Left(number) => {
-                let Some((left, sign, _)) = line.entries[number - 1] else { continue };
+                let Some((left, sign, _)) = line.entries[number - 1] else {
+                    continue;
+                };
                 let left = port.select(left)?;
-                slots[number - 1] = Some(Adder { left, sign, right: left });
+                slots[number - 1] = Some(Adder {
+                    left,
+                    sign,
+                    right: left,
+                });
             }
             Port::Right(number) => {
-                let Some((_, _, right)) = line.entries[number - 1] else { continue };
+                let Some((_, _, right)) = line.entries[number - 1] else {
+                    continue;
+                };
                 let right = port.select(right)?;
                 slots[number - 1] = slots[number - 1].map(|adder| Adder { right, ..adder });
             }
@@ -202,7 +244,9 @@ mod tests {
                          s00=0+0 0+0 0\ns01=0+1 0+1 0\n";
 
     fn told(sheet: &str) -> Option<(u8, usize)> {
-        read(sheet.as_bytes()).err().map(|refusal| (refusal.cause.number(), refusal.line))
+        read(sheet.as_bytes())
+            .err()
+            .map(|refusal| (refusal.cause.number(), refusal.line))
     }
 
     #[test]
@@ -217,7 +261,11 @@ mod tests {
             ("s01=0+1 0+1 0", "s01=- 0+1 0", (45, 9)),
             ("1R=0.2 0.1", "1R=0.2 0.1 0.5", (46, 4)),
             ("s01=0+1 0+1 0\n", "", (46, 4)),
-            ("s01=0+1 0+1 0\n", "s01=0+1 0+1 0\ns16=0+0 0+0 0\n", (41, 10)),
+            (
+                "s01=0+1 0+1 0\n",
+                "s01=0+1 0+1 0\ns16=0+0 0+0 0\n",
+                (41, 10),
+            ),
         ];
         for (from, to, refusal) in cases {
             assert_eq!(told(&SHEET.replace(from, to)), Some(refusal), "{to}");
@@ -237,9 +285,16 @@ mod tests {
         let block = read(SHEET.as_bytes()).expect("a sheet");
         let constants: Vec<i64> = block.live_rows().map(Row::constant).collect();
         assert_eq!(constants, [45, 19]);
-        let ascending = SHEET.replace("1R=0.2 0.1", "1R=0.1 0.2").replace("2R=1.3 0.4", "2R=0.4 1.3");
-        let ascending = ascending.replace("s00=0+0 0+0", "s00=0+1 0+1").replace("s01=0+1 0+1", "s01=0+0 0+0");
-        assert_eq!(String::from_utf8(crate::sheet::write(&block)), Ok(ascending));
+        let ascending = SHEET
+            .replace("1R=0.2 0.1", "1R=0.1 0.2")
+            .replace("2R=1.3 0.4", "2R=0.4 1.3");
+        let ascending = ascending
+            .replace("s00=0+0 0+0", "s00=0+1 0+1")
+            .replace("s01=0+1 0+1", "s01=0+0 0+0");
+        assert_eq!(
+            String::from_utf8(crate::sheet::write(&block)),
+            Ok(ascending)
+        );
         assert_eq!(crate::depth::depth(&block), 4);
     }
 }

@@ -22,10 +22,19 @@ pub fn write_into(block: &Block, sheet: &mut Vec<u8>) {
 
 /// The sheet with the inputs of each port in the order handed in, put at the
 /// end of a buffer.
-pub fn write_in_order(block: &Block, sheet: &mut Vec<u8>, inputs: impl FnMut(Port) -> Vec<Operand>) {
+pub fn write_in_order(
+    block: &Block,
+    sheet: &mut Vec<u8>,
+    inputs: impl FnMut(Port) -> Vec<Operand>,
+) {
     let inputs: Vec<Vec<Operand>> = Port::of(block.adders()).map(inputs).collect();
     // Nothing that is written into memory fails, so what `write!` answers is left.
-    let _ = write!(sheet, "adders={}\nwidth={}\n", block.adders(), block.width());
+    let _ = write!(
+        sheet,
+        "adders={}\nwidth={}\n",
+        block.adders(),
+        block.width()
+    );
     for (port, inputs) in Port::of(block.adders()).zip(&inputs) {
         port_line(sheet, port, inputs);
     }
@@ -51,7 +60,12 @@ fn code_line(sheet: &mut Vec<u8>, code: usize, row: &Row, adders: usize, inputs:
     for index in 0..adders {
         let _ = match row.adder(index + 1) {
             Some(Adder { left, sign, right }) => {
-                write!(sheet, "{}{sign}{} ", number(2 * index, left), number(2 * index + 1, right))
+                write!(
+                    sheet,
+                    "{}{sign}{} ",
+                    number(2 * index, left),
+                    number(2 * index + 1, right)
+                )
             }
             None => write!(sheet, "- "),
         };
