@@ -96,15 +96,15 @@ fn of_samples() -> Vec<Family> {
     let mut multiples = families(
         Program::Multiples,
         [
-            ("multiples", 2000, samples::multiples),
-            ("multiples damaged", 2000, samples::damaged_multiples),
+            ("multiples", 3000, samples::multiples),
+            ("multiples damaged", 3000, samples::damaged_multiples),
         ],
     );
     multiples.extend(families(
         Program::Products,
         [
-            ("products", 2500, samples::products),
-            ("products damaged", 2500, samples::damaged_products),
+            ("products", 4000, samples::products),
+            ("products damaged", 4000, samples::damaged_products),
         ],
     ));
     multiples
@@ -114,11 +114,11 @@ fn of_generators() -> Vec<Family> {
     families(
         Program::FuseGen,
         [
-            ("fusegen short", 3000, generator::short),
-            ("fusegen long", 60, generator::long),
-            ("fusegen full", 40, generator::full),
-            ("fusegen damaged", 4000, generator::damaged),
-            ("fusegen limits", 1500, generator::limits),
+            ("fusegen short", 4000, generator::short),
+            ("fusegen long", 100, generator::long),
+            ("fusegen full", 80, generator::full),
+            ("fusegen damaged", 5000, generator::damaged),
+            ("fusegen limits", 2000, generator::limits),
         ],
     )
 }
@@ -127,9 +127,9 @@ fn of_sheets() -> Vec<Family> {
     families(
         Program::ReadSheet,
         [
-            ("readsheet valid", 3000, sheets::valid),
-            ("readsheet edited", 6000, sheets::edited),
-            ("readsheet damaged", 4000, sheets::damaged),
+            ("readsheet valid", 4000, sheets::valid),
+            ("readsheet edited", 10000, sheets::edited),
+            ("readsheet damaged", 5000, sheets::damaged),
             ("readsheet limits", 1000, sheets::limits),
         ],
     )
@@ -139,11 +139,11 @@ fn of_prices() -> Vec<Family> {
     families(
         Program::Price,
         [
-            ("price valid", 3000, |random| priced(random, sheets::valid)),
-            ("price edited", 3000, |random| {
+            ("price valid", 4000, |random| priced(random, sheets::valid)),
+            ("price edited", 6000, |random| {
                 priced(random, sheets::edited)
             }),
-            ("price damaged", 3000, |random| {
+            ("price damaged", 4000, |random| {
                 priced(random, sheets::damaged)
             }),
             ("price limits", 1000, |random| {
@@ -157,13 +157,13 @@ fn of_scripts() -> Vec<Family> {
     families(
         Program::Replay,
         [
-            ("replay small", 150, |random| {
+            ("replay small", 200, |random| {
                 scripts::script(random, &scripts::SMALL)
             }),
-            ("replay wide", 120, |random| {
+            ("replay wide", 160, |random| {
                 scripts::script(random, &scripts::WIDE)
             }),
-            ("replay wild", 1000, |random| {
+            ("replay wild", 1200, |random| {
                 scripts::script(random, &scripts::WILD)
             }),
         ],
