@@ -10,7 +10,7 @@ use std::thread;
 use std::time::{Duration, Instant};
 
 use crate::adder::MOST_ADDERS;
-use crate::compare::subject::{run, Run};
+use crate::compare::subject::{run, Run, WHOLE};
 use crate::generate::{blocks, chains};
 use crate::random::Random;
 use crate::sheet;
@@ -117,7 +117,12 @@ impl Worker {
     }
 
     fn run(&self, work: &Work, count: u64) -> io::Result<Run<Option<Duration>>> {
-        let run = run(&mut Command::new(&self.path), &work.input(count), on_core)?;
+        let run = run(
+            &mut Command::new(&self.path),
+            &work.input(count),
+            WHOLE,
+            on_core,
+        )?;
         if run.status.success() {
             Ok(run)
         } else {

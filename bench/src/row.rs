@@ -101,13 +101,11 @@ impl Row {
         }
         let output = shifted(self.output, fall(self.output.source));
         let output = output.ok_or(Cause::ShiftOutOfRange.at(0))?;
-        let place = if planted::is(Plant::MovedAtOutput) {
-            0
-        } else {
-            number
-        };
-        // Nothing but the operands of the moved adder can leave their range.
-        Row::new(slots, output).map_err(|refusal| refusal.cause.at(place))
+        let row = Row::new(slots, output);
+        if planted::is(Plant::MovedAtOutput) {
+            return row.map_err(|refusal| refusal.cause.at(0));
+        }
+        row
     }
 
     fn used(&self, adder: u64) -> Option<(usize, Adder)> {

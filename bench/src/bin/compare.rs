@@ -16,10 +16,11 @@ use reference::programs::Program;
 
 const USAGE: &str =
     "compare [--seed N] [--percent N] [--seconds N] [--threads N] [--family START] \
-                     [--plant NAME|all] [CRATES]";
+                     [--plant NAME|all] [--suffix END] [CRATES]";
 
 struct Options {
     crates: PathBuf,
+    suffix: String,
     seed: u64,
     percent: usize,
     seconds: u64,
@@ -32,6 +33,7 @@ impl Options {
     fn read(mut arguments: impl Iterator<Item = String>) -> Result<Self, Box<dyn Error>> {
         let mut options = Options {
             crates: PathBuf::from("../crates"),
+            suffix: String::new(),
             seed: 1,
             percent: 100,
             seconds: 170,
@@ -42,6 +44,7 @@ impl Options {
         while let Some(argument) = arguments.next() {
             let mut value = || arguments.next().ok_or(USAGE);
             match argument.as_str() {
+                "--suffix" => options.suffix = value()?,
                 "--seed" => options.seed = value()?.parse()?,
                 "--percent" => options.percent = value()?.parse()?,
                 "--seconds" => options.seconds = value()?.parse()?,
@@ -95,7 +98,7 @@ fn main() -> ExitCode {
 
 fn run() -> Result<bool, Box<dyn Error>> {
     let options = Options::read(env::args().skip(1))?;
-    let crates = Crates::in_folder(&options.crates);
+    let crates = Crates::in_folder(&options.crates, &options.suffix);
     let families = options.families();
     if let Some(missing) = families
         .iter()

@@ -27,11 +27,12 @@ impl Family {
     }
 }
 
+/// How many chain lines most inputs of `constants` have.
 const LINES: usize = 250;
 
-fn many_lines(random: &mut Random, line: Draw) -> Vec<u8> {
+fn lines(random: &mut Random, count: usize, line: Draw) -> Vec<u8> {
     let mut input = Vec::new();
-    for _ in 0..LINES {
+    for _ in 0..count {
         input.extend(line(random));
         input.push(b'\n');
     }
@@ -77,16 +78,19 @@ fn of_chains() -> Vec<Family> {
         Program::Constants,
         [
             ("lines valid", 160, |random| {
-                many_lines(random, chains::valid_line)
+                lines(random, LINES, chains::valid_line)
             }),
             ("lines rules", 240, |random| {
-                many_lines(random, chains::ruled_line)
+                lines(random, LINES, chains::ruled_line)
+            }),
+            ("lines many", 3, |random| {
+                lines(random, 8000, chains::any_line)
             }),
             ("lines damaged", 240, |random| {
-                many_lines(random, chains::damaged_line)
+                lines(random, LINES, chains::damaged_line)
             }),
             ("lines lengths", 160, |random| {
-                many_lines(random, chains::line_of_length)
+                lines(random, LINES, chains::line_of_length)
             }),
         ],
     )
@@ -97,6 +101,7 @@ fn of_samples() -> Vec<Family> {
         Program::Multiples,
         [
             ("multiples", 3000, samples::multiples),
+            ("multiples many", 3, samples::many_multiples),
             ("multiples damaged", 3000, samples::damaged_multiples),
         ],
     );
@@ -162,6 +167,9 @@ fn of_scripts() -> Vec<Family> {
             }),
             ("replay wide", 160, |random| {
                 scripts::script(random, &scripts::WIDE)
+            }),
+            ("replay long", 4, |random| {
+                scripts::script(random, &scripts::LONG)
             }),
             ("replay wild", 1200, |random| {
                 scripts::script(random, &scripts::WILD)

@@ -12,6 +12,9 @@ use crate::programs::Program;
 /// A program that answers nothing for so long is taken to answer never.
 const PATIENCE: Duration = Duration::from_secs(60);
 
+/// A length of pieces that leaves an input whole.
+pub const WHOLE: usize = usize::MAX;
+
 /// What answers as the programs do.
 pub trait Subject: Sync {
     fn answer(&self, program: Program, input: &[u8]) -> io::Result<Vec<u8>>;
@@ -20,20 +23,24 @@ pub trait Subject: Sync {
 /// The programs of a folder of crates, each a process of its own.
 pub struct Crates {
     folder: PathBuf,
+    /// What stands after a program's name in that of its binary.
+    suffix: String,
 }
 
 impl Crates {
-    pub fn in_folder(folder: &Path) -> Self {
+    pub fn in_folder(folder: &Path, suffix: &str) -> Self {
         Crates {
             folder: folder.to_path_buf(),
+            suffix: suffix.to_string(),
         }
     }
 
     pub fn binary(&self, program: Program) -> PathBuf {
-        self.folder
-            .join(program.name())
-            .join("out")
-            .join(program.name())
+        self.folder.join(program.name()).join("out").join(format!(
+            "{}{}",
+            program.name(),
+            self.suffix
+        ))
     }
 
     pub fn stored_input(&self, program: Program) -> PathBuf {
@@ -43,8 +50,19 @@ impl Crates {
 
 impl Subject for Crates {
     fn answer(&self, program: Program, input: &[u8]) -> io::Result<Vec<u8>> {
-        let Run { status, output, .. } =
-            run(&mut Command::new(self.binary(program)), input, |_| ())?;
+        // Some inputs come in pieces, so that a program also meets a read that
+        // answers less than there will be.
+        let piece = if input.len().is_multiple_of(8) {
+            61
+        } else {
+            WHOLE
+        };
+        let Run { status, output, .. } = run(
+            &mut Command::new(self.binary(program)),
+            input,
+            piece,
+            |_| (),
+        )?;
         if status.success() {
             Ok(output)
         } else {
@@ -64,11 +82,13 @@ pub struct Run<T> {
     pub asked: T,
 }
 
-/// Runs a command on an input. Input and output each have a thread, since a
-/// program may write before it has read all.
+/// Runs a command on an input, which is written in pieces of a length. Input
+/// and output each have a thread, since a program may write before it has read
+/// all.
 pub fn run<T>(
     command: &mut Command,
     input: &[u8],
+    piece: usize,
     ask: impl FnOnce(&Child) -> T,
 ) -> io::Result<Run<T>> {
     let mut child = command
@@ -78,7 +98,13 @@ pub fn run<T>(
     let (stdin, stdout) = (child.stdin.take(), child.stdout.take());
     let input = input.to_vec();
     // A program that stops reading has its output compared all the same.
-    let writer = thread::spawn(move || stdin.map(|mut stdin| stdin.write_all(&input)));
+    let writer = thread::spawn(move || {
+        let mut stdin = stdin?;
+        input
+            .chunks(piece)
+            .try_for_each(|piece| stdin.write_all(piece))
+            .ok()
+    });
     let output = read_all(&mut child, stdout);
     let asked = ask(&child);
     let status = child.wait()?;

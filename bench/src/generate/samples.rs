@@ -9,6 +9,13 @@ pub fn multiples(random: &mut Random) -> Vec<u8> {
     damage::joined(random, &lines)
 }
 
+/// More bytes than a program reads at once.
+pub fn many_multiples(random: &mut Random) -> Vec<u8> {
+    let mut lines = vec![chains::valid_line(random)];
+    lines.extend((0..8000).map(|_| sample(random)));
+    damage::joined(random, &lines)
+}
+
 pub fn damaged_multiples(random: &mut Random) -> Vec<u8> {
     let mut lines = vec![chains::any_line(random)];
     lines.extend(samples(random));

@@ -39,6 +39,14 @@ pub const WIDE: Plan = Plan {
     wild: 8,
     placements: 150_000,
 };
+pub const LONG: Plan = Plan {
+    least_adders: 0,
+    most_adders: 2,
+    least_calls: 15_000,
+    most_calls: 30_000,
+    wild: 8,
+    placements: 400_000,
+};
 pub const WILD: Plan = Plan {
     least_adders: 0,
     most_adders: 4,
