@@ -120,8 +120,8 @@ fn of_generators() -> Vec<Family> {
         Program::FuseGen,
         [
             ("fusegen short", 4000, generator::short),
-            ("fusegen long", 100, generator::long),
-            ("fusegen full", 80, generator::full),
+            ("fusegen long", 160, generator::long),
+            ("fusegen full", 120, generator::full),
             ("fusegen damaged", 5000, generator::damaged),
             ("fusegen limits", 2000, generator::limits),
         ],
@@ -162,10 +162,10 @@ fn of_scripts() -> Vec<Family> {
     families(
         Program::Replay,
         [
-            ("replay small", 200, |random| {
+            ("replay small", 220, |random| {
                 scripts::script(random, &scripts::SMALL)
             }),
-            ("replay wide", 160, |random| {
+            ("replay wide", 240, |random| {
                 scripts::script(random, &scripts::WIDE)
             }),
             ("replay long", 4, |random| {

@@ -91,6 +91,33 @@ fn shift(random: &mut Random, reach: u8) -> u8 {
     }
 }
 
+/// A chain whose last adder takes one large operand from another, under an
+/// output shift that lets it be moved further up; or any chain where the draw
+/// makes none.
+pub fn steep_chain(random: &mut Random, adders: usize) -> Chain {
+    let chain = valid(random, adders, 2);
+    let values = values(chain.adders());
+    let made = (0..20).find_map(|_| {
+        let mut adders = chain.adders().to_vec();
+        let last = adders.last_mut()?;
+        let [left, mut right] = last.operands().map(|operand| steep(operand, &values));
+        right.shift = right.shift.saturating_sub(random.below(4) as u8);
+        let sign = Sign::Minus;
+        *last = Adder { left, sign, right };
+        Chain::new(adders, random.between(1, 3) as u8).ok()
+    });
+    made.unwrap_or(chain)
+}
+
+/// The value of the sample and of each adder of a chain.
+fn values(adders: &[Adder]) -> Vec<Value> {
+    let mut values = vec![1];
+    for adder in adders {
+        values.push(adder.value(&values).unwrap_or(0));
+    }
+    values
+}
+
 /// A reach, small ones more often.
 pub fn reach(random: &mut Random) -> u8 {
     random.pick(&[0, 1, 1, 2, 2, 3, 3, 4, 6, 10, 15, 30])

@@ -45,7 +45,10 @@ pub fn damaged_products(random: &mut Random) -> Vec<u8> {
 /// A chain, a code, one of its adders mostly, and an amount.
 fn head(random: &mut Random) -> Vec<Vec<u8>> {
     let (count, reach) = (chains::count(random, 8), chains::reach(random));
-    let chain = chains::valid(random, count, reach);
+    let chain = match random.below(12) {
+        0 => chains::steep_chain(random, count),
+        _ => chains::valid(random, count, reach),
+    };
     let adder = if random.chance(90) {
         random.between(1, count.max(1))
     } else {

@@ -162,7 +162,10 @@ impl Script {
         } else {
             chains::count(random, self.adders)
         };
-        let chain = chains::valid(random, count.min(8), self.reach);
+        let chain = match random.below(20) {
+            0 => chains::steep_chain(random, count.min(8)),
+            _ => chains::valid(random, count.min(8), self.reach),
+        };
         format!("fuse {code} {list} {chain}").into_bytes()
     }
 
