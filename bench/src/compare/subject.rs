@@ -1,0 +1,130 @@
+//! Asking a program for its output.
+
+use std::io::{self, Read, Write};
+use std::path::{Path, PathBuf};
+use std::process::{Child, ChildStdout, Command, ExitStatus, Stdio};
+use std::sync::mpsc;
+use std::thread;
+use std::time::Duration;
+
+use crate::programs::Program;
+
+/// A program that answers nothing for so long is taken to answer never.
+const PATIENCE: Duration = Duration::from_secs(60);
+
+/// A length of pieces that leaves an input whole.
+pub const WHOLE: usize = usize::MAX;
+
+/// What answers as the programs do.
+pub trait Subject: Sync {
+    fn answer(&self, program: Program, input: &[u8]) -> io::Result<Vec<u8>>;
+}
+
+/// The programs of a folder of crates, each a process of its own.
+pub struct Crates {
+    folder: PathBuf,
+    /// What stands after a program's name in that of its binary.
+    suffix: String,
+}
+
+impl Crates {
+    pub fn in_folder(folder: &Path, suffix: &str) -> Self {
+        Crates {
+            folder: folder.to_path_buf(),
+            suffix: suffix.to_string(),
+        }
+    }
+
+    pub fn binary(&self, program: Program) -> PathBuf {
+        self.folder.join(program.name()).join("out").join(format!(
+            "{}{}",
+            program.name(),
+            self.suffix
+        ))
+    }
+
+    pub fn stored_input(&self, program: Program) -> PathBuf {
+        self.folder.join(program.name()).join("stdin")
+    }
+}
+
+impl Subject for Crates {
+    fn answer(&self, program: Program, input: &[u8]) -> io::Result<Vec<u8>> {
+        // Some inputs come in pieces, so that a program also meets a read that
+        // answers less than there will be.
+        let piece = if input.len().is_multiple_of(8) {
+            61
+        } else {
+            WHOLE
+        };
+        let Run { status, output, .. } = run(
+            &mut Command::new(self.binary(program)),
+            input,
+            piece,
+            |_| (),
+        )?;
+        if status.success() {
+            Ok(output)
+        } else {
+            Err(io::Error::other(format!(
+                "{} ended with {status}",
+                program.name()
+            )))
+        }
+    }
+}
+
+/// What a process left.
+pub struct Run<T> {
+    pub status: ExitStatus,
+    pub output: Vec<u8>,
+    /// What was asked of the process between the end of its output and its own.
+    pub asked: T,
+}
+
+/// Runs a command on an input, which is written in pieces of a length. Input
+/// and output each have a thread, since a program may write before it has read
+/// all.
+pub fn run<T>(
+    command: &mut Command,
+    input: &[u8],
+    piece: usize,
+    ask: impl FnOnce(&Child) -> T,
+) -> io::Result<Run<T>> {
+    let mut child = command
+        .stdin(Stdio::piped())
+        .stdout(Stdio::piped())
+        .spawn()?;
+    let (stdin, stdout) = (child.stdin.take(), child.stdout.take());
+    let input = input.to_vec();
+    // A program that stops reading has its output compared all the same.
+    let writer = thread::spawn(move || {
+        let mut stdin = stdin?;
+        input
+            .chunks(piece)
+            .try_for_each(|piece| stdin.write_all(piece))
+            .ok()
+    });
+    let output = read_all(&mut child, stdout);
+    let asked = ask(&child);
+    let status = child.wait()?;
+    let _ = writer.join();
+    Ok(Run {
+        status,
+        output: output?,
+        asked,
+    })
+}
+
+fn read_all(child: &mut Child, stdout: Option<ChildStdout>) -> io::Result<Vec<u8>> {
+    let (sender, receiver) = mpsc::channel();
+    thread::spawn(move || {
+        let mut output = Vec::new();
+        let read = stdout.map_or(Ok(0), |mut stdout| stdout.read_to_end(&mut output));
+        let _ = sender.send(read.map(|_| output));
+    });
+    receiver.recv_timeout(PATIENCE).unwrap_or_else(|_| {
+        child.kill()?;
+        Err(io::Error::new(io::ErrorKind::TimedOut, "no end of output"))
+    })
+}

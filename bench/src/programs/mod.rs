@@ -1,0 +1,78 @@
+//! The seven programs, each as a function from its input to its output.
+
+mod chains;
+mod scripts;
+mod sheets;
+
+use std::fmt;
+
+use crate::refusal::{Cause, Refusal};
+
+#[derive(Clone, Copy, Debug, PartialEq, Eq)]
+pub enum Program {
+    Constants,
+    Multiples,
+    Products,
+    ReadSheet,
+    Price,
+    FuseGen,
+    Replay,
+}
+
+impl Program {
+    /// The name of its crate and of its binary.
+    pub fn name(self) -> &'static str {
+        match self {
+            Program::Constants => "constants",
+            Program::Multiples => "multiples",
+            Program::Products => "products",
+            Program::ReadSheet => "readsheet",
+            Program::Price => "price",
+            Program::FuseGen => "fusegen",
+            Program::Replay => "replay",
+        }
+    }
+
+    pub fn run(self, input: &[u8]) -> Vec<u8> {
+        match self {
+            Program::Constants => chains::constants(input),
+            Program::Multiples => chains::multiples(input),
+            Program::Products => chains::products(input),
+            Program::ReadSheet => sheets::read_sheet(input),
+            Program::Price => sheets::price(input),
+            Program::FuseGen => scripts::fuse_gen(input),
+            Program::Replay => scripts::replay(input),
+        }
+    }
+}
+
+/// A refusal with the line of the input that it turns down.
+#[derive(Clone, Copy, Debug)]
+pub struct Fault {
+    pub refusal: Refusal,
+    pub line: usize,
+}
+
+impl Fault {
+    /// A line that the input lacks.
+    pub fn missing(line: usize) -> Self {
+        Cause::BrokenForm.at(0).on(line)
+    }
+}
+
+impl Refusal {
+    pub fn on(self, line: usize) -> Fault {
+        Fault {
+            refusal: self,
+            line,
+        }
+    }
+}
+
+impl fmt::Display for Fault {
+    fn fmt(&self, f: &mut fmt::Formatter) -> fmt::Result {
+        writeln!(f, "fault={}", self.refusal.cause.number())?;
+        writeln!(f, "line={}", self.line)?;
+        writeln!(f, "place={}", self.refusal.place)
+    }
+}
