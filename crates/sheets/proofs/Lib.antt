@@ -1,3 +1,4 @@
+pub mod Gathering
 pub mod Selecting
 pub mod ReadOver
 pub mod Canonical

@@ -2,6 +2,7 @@
 #![tactic(auto)]
 
 mod calls;
+mod gathered;
 mod writer;
 
 pub use calls::{read, write};

@@ -6,10 +6,10 @@ use Rattle.sheets.proofs.writer.selections.Goals as goal
 
 pub loop-place-preserved : goal.loop-place-preserved
 loop-place-preserved c =
-    let orders = inputs c.args.block.now in
+    let orders = inputs c.args.lists.now.block.now in
     let place = c.loop-place.place in
     subst (λ x. Selected orders c.args.row.now.slots (place + 1) (set c.loop-place.selections place x)) (sym (c.selection.ensures ∙ ap (λ ys. selection_of orders (place + 1) (get_or ys place None)) c.slots.ensures.slots))
     (one_selected orders c.args.row.now.slots place c.loop-place.selections c.args.row.now.room c.loop-place.invariant c.loop-place-test.true)
 
 pub returns : goal.returns
-returns c = all_selected (inputs c.args.block.now) c.args.row.now.slots c.loop-place.place c.loop-place.selections c.args.row.now.room c.loop-place.invariant c.loop-place-test.false
+returns c = all_selected (inputs c.args.lists.now.block.now) c.args.row.now.slots c.loop-place.place c.loop-place.selections c.args.row.now.room c.loop-place.invariant c.loop-place-test.false

@@ -3,4 +3,4 @@ use Rattle.sheets.proofs.Selecting.{Selected}
 use Rattle.sheets.proofs.writer.selections.Given as goal
 
 abbrev pub invariant-loop-place : goal.invariant-loop-place
-invariant-loop-place l = Selected (inputs l.fn.block) l.fn.row.slots l.place l.selections
+invariant-loop-place l = Selected (inputs l.fn.lists.block.now) l.fn.row.slots l.place l.selections

@@ -5,8 +5,8 @@ use Rattle.sheets.proofs.writer.write_ports.Goals as goal
 
 pub loop-place-preserved : goal.loop-place-preserved
 loop-place-preserved c =
-    port_written c.args.block.now c.loop-place.place c.args.text.now c.loop-place.text c.loop-place.invariant (omega (arith, c.loop-place-test.true, c.adders-adders.ensures)) c.port_line.new.self
-    (port_wrote c.args.block.now c.loop-place.place c.loop-place.text c.port_line.new.self c.nth-port.result c.as_slice.result.now (c.nth-port.ensures ∙ ap (λ a. nth_port a c.loop-place.place) c.adders-adders.ensures) (c.as_slice.ensures.items ∙ c.inputs.ensures) c.port_line.ensures)
+    port_written c.args.lists.now.block.now c.loop-place.place c.args.text.now c.loop-place.text c.loop-place.invariant (omega (arith, c.loop-place-test.true, c.adders-adders.ensures)) c.port_line.new.self
+    (port_wrote c.args.lists.now.block.now c.loop-place.place c.loop-place.text c.port_line.new.self c.nth-port.result c.at.result.now (c.nth-port.ensures ∙ ap (λ a. nth_port a c.loop-place.place) c.adders-adders.ensures) c.at.ensures.items c.port_line.ensures)
 
 pub returns : goal.returns
-returns c = ports_written c.args.block.now c.loop-place.place c.args.text.now c.loop-place.text c.loop-place.invariant (omega (arith, c.loop-place-test.false, c.adders-adders.ensures))
+returns c = ports_written c.args.lists.now.block.now c.loop-place.place c.args.text.now c.loop-place.text c.loop-place.invariant (omega (arith, c.loop-place-test.false, c.adders-adders.ensures))

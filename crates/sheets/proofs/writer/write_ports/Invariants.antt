@@ -6,4 +6,4 @@ use Rattle.sheets.proofs.Writes.{Finishes}
 use Rattle.sheets.proofs.writer.write_ports.Given as goal
 
 abbrev pub invariant-loop-place : goal.invariant-loop-place
-invariant-loop-place l = Finishes l.fn.text (port_lines (inputs l.fn.block) (ports l.fn.block.adders)) l.text (port_lines (inputs l.fn.block) (drop l.place (ports l.fn.block.adders)))
+invariant-loop-place l = Finishes l.fn.text (port_lines (inputs l.fn.lists.block.now) (ports l.fn.lists.block.now.adders)) l.text (port_lines (inputs l.fn.lists.block.now) (drop l.place (ports l.fn.lists.block.now.adders)))
