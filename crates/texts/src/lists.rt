@@ -1,5 +1,5 @@
 // Reading the lists of a sheet: the inputs of a port, and what a code selects at each adder.
-ghost use Rattle.std.specs.Prelude.{◌≡◌, List, option_map, ◌∷◌, ◌≤◌};
+ghost use Rattle.std.specs.Prelude.{◌≡◌, List, None, option_map, ◌∷◌, ◌<◌, ◌≤◌};
 ghost use Rattle.adders.specs.declared.wiring.Operand.{Operand};
 ghost use Rattle.texts.specs.Steps.{read_of, Read};
 ghost use Rattle.texts.specs.Pieces.{side_at, port_key_at, more_at, input_list_at, port_line_at, entries_at, selections_at};
@@ -12,6 +12,8 @@ use crate::pieces::{entry, number, operand, skip};
 use crate::selection::{Selection, Selections};
 use adders::Operand;
 use ports::Port;
+
+const MOST_ADDERS: usize = 8;
 
 // The number of an adder and the key of its left or right.
 #[tactic(auto, unfolding(crate::specs::Pieces::side_at))]
@@ -89,12 +91,15 @@ fn entries(text: &[u8], count: usize) -> Option<([Option<Selection>; 8], &[u8])>
     Some((entries, rest))
 }
 
-// What a code line has after its key, in a block of so many adders.
+// What a code line has after its key, in a block of so many adders, of which no block has more than eight.
 #[tactic(auto, unfolding(crate::specs::Pieces::selections_at))]
 pub fn selections(text: &[u8], count: usize) -> Option<(Selections, &[u8])>
-    requires { count ≤ 8 }
-    ensures { read_of result ≡ as_selections (selections_at count text.now) }
+    ensures read { count ≤ 8 → read_of result ≡ as_selections (selections_at count text.now) }
+    ensures many { 8 < count → result ≡ None }
 {
+    if count > MOST_ADDERS {
+        return None;
+    }
     let (adders, rest) = entries(text, count)?;
     let (output, rest) = number(rest)?;
     let rest = skip(rest, keys::LINE_FEED)?;
