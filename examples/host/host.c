@@ -14,7 +14,7 @@
 
 #include "kundrevez.h"
 
-enum { MOST_BYTES = 1 << 20 };
+enum { MOST_BYTES = 1 << 24 };
 
 static uint8_t input[MOST_BYTES];
 

@@ -13,9 +13,9 @@ pub struct Family {
 }
 
 impl Family {
-    /// Each line of `constants` is answered by itself, so each is a case.
+    /// Each chain line is answered by itself, so each is a case.
     pub fn has_cases_by_line(&self) -> bool {
-        self.program == Program::Constants
+        matches!(self.program, Program::Constants | Program::HostChains)
     }
 
     pub fn cases(&self, input: &[u8]) -> usize {
@@ -50,6 +50,7 @@ pub fn all() -> Vec<Family> {
         of_sheets(),
         of_prices(),
         of_scripts(),
+        of_the_host(),
     ]
     .into_iter()
     .flatten()
@@ -176,6 +177,30 @@ fn of_scripts() -> Vec<Family> {
             }),
         ],
     )
+}
+
+fn of_the_host() -> Vec<Family> {
+    let mut host = families(
+        Program::HostChains,
+        [
+            ("host lines", 60, |random| {
+                lines(random, LINES, chains::any_line)
+            }),
+            ("host lengths", 20, |random| {
+                lines(random, LINES, chains::line_of_length)
+            }),
+        ],
+    );
+    host.extend(families(
+        Program::HostSheet,
+        [
+            ("host valid", 1000, sheets::valid),
+            ("host edited", 3000, sheets::edited),
+            ("host damaged", 1500, sheets::damaged),
+            ("host limits", 300, sheets::limits),
+        ],
+    ));
+    host
 }
 
 fn priced(random: &mut Random, sheet: Draw) -> Vec<u8> {

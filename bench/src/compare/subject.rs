@@ -36,6 +36,9 @@ impl Crates {
     }
 
     pub fn binary(&self, program: Program) -> PathBuf {
+        if program.is_host() {
+            return self.host().join("out").join("host");
+        }
         self.folder.join(program.name()).join("out").join(format!(
             "{}{}",
             program.name(),
@@ -43,7 +46,23 @@ impl Crates {
         ))
     }
 
+    /// The folder of the host in C, which stands beside that of the crates.
+    fn host(&self) -> PathBuf {
+        self.folder.join("..").join("examples").join("host")
+    }
+
+    fn command(&self, program: Program) -> Command {
+        let mut command = Command::new(self.binary(program));
+        if program.is_host() {
+            command.arg(program.name());
+        }
+        command
+    }
+
     pub fn stored_input(&self, program: Program) -> PathBuf {
+        if program.is_host() {
+            return self.host().join(program.name());
+        }
         self.folder.join(program.name()).join("stdin")
     }
 }
@@ -57,12 +76,7 @@ impl Subject for Crates {
         } else {
             WHOLE
         };
-        let Run { status, output, .. } = run(
-            &mut Command::new(self.binary(program)),
-            input,
-            piece,
-            |_| (),
-        )?;
+        let Run { status, output, .. } = run(&mut self.command(program), input, piece, |_| ())?;
         if status.success() {
             Ok(output)
         } else {

@@ -45,7 +45,7 @@ impl Tally {
             if line == b"sheet" {
                 break;
             }
-            tally.line(program, line);
+            tally.line(program, without_code(program, line));
         }
         tally
     }
@@ -76,6 +76,14 @@ impl Tally {
     }
 }
 
+/// The host says the code before what a sheet gives at it, as `s07 `.
+fn without_code(program: Program, line: &[u8]) -> &[u8] {
+    match program {
+        Program::HostSheet => line.get(4..).unwrap_or_default(),
+        _ => line,
+    }
+}
+
 /// How a line of output begins that answers something accepted.
 fn marks(program: Program) -> &'static [&'static [u8]] {
     match program {
@@ -86,6 +94,7 @@ fn marks(program: Program) -> &'static [&'static [u8]] {
         Program::Price => &[b"price="],
         Program::FuseGen => &[b"adders="],
         Program::Replay => &[b"ok"],
+        Program::HostChains | Program::HostSheet => &[b"constant="],
     }
 }
 

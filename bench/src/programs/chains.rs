@@ -1,4 +1,4 @@
-//! `constants`, `multiples` and `products`: chains and what they make of samples.
+//! `constants`, `multiples`, `products` and the host on chain lines: chains and what they make of samples.
 
 use crate::arithmetic::{run, Frame, Residue, Word};
 use crate::block::Block;
@@ -13,6 +13,15 @@ pub fn constants(input: &[u8]) -> Vec<u8> {
     let report = |line| match Chain::read(line) {
         Ok(chain) => format!("constant={}\n", chain.constant()),
         Err(Refusal { cause, place }) => format!("fault={}\nplace={place}\n", cause.number()),
+    };
+    lines(input).map(report).collect::<String>().into_bytes()
+}
+
+/// A host is told no places.
+pub fn host(input: &[u8]) -> Vec<u8> {
+    let report = |line| match Chain::read(line) {
+        Ok(chain) => format!("constant={}\n", chain.constant()),
+        Err(refusal) => format!("fault={}\n", refusal.cause.number()),
     };
     lines(input).map(report).collect::<String>().into_bytes()
 }

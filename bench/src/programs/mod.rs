@@ -1,4 +1,4 @@
-//! The seven programs, each as a function from its input to its output.
+//! The seven programs and the host in C, each as a function from its input to its output.
 
 mod chains;
 mod scripts;
@@ -17,10 +17,14 @@ pub enum Program {
     Price,
     FuseGen,
     Replay,
+    /// The example host in C, on chain lines.
+    HostChains,
+    /// The same on a sheet, at each code.
+    HostSheet,
 }
 
 impl Program {
-    /// The name of its crate and of its binary.
+    /// The name of its crate and of its binary; of the host what it is asked for.
     pub fn name(self) -> &'static str {
         match self {
             Program::Constants => "constants",
@@ -30,6 +34,8 @@ impl Program {
             Program::Price => "price",
             Program::FuseGen => "fusegen",
             Program::Replay => "replay",
+            Program::HostChains => "chains",
+            Program::HostSheet => "sheet",
         }
     }
 
@@ -42,7 +48,13 @@ impl Program {
             Program::Price => sheets::price(input),
             Program::FuseGen => scripts::fuse_gen(input),
             Program::Replay => scripts::replay(input),
+            Program::HostChains => chains::host(input),
+            Program::HostSheet => sheets::host(input),
         }
+    }
+
+    pub fn is_host(self) -> bool {
+        matches!(self, Program::HostChains | Program::HostSheet)
     }
 }
 

@@ -1,4 +1,4 @@
-//! `readsheet` and `price`: what a wiring sheet says.
+//! `readsheet`, `price` and the host on a sheet: what a wiring sheet says.
 
 use crate::block::Block;
 use crate::depth::depth;
@@ -27,6 +27,21 @@ fn constants_and_depth(block: &Block) -> String {
     constants
         .chain([format!("depth={}\n", depth(block))])
         .collect()
+}
+
+/// Each code of the sheet, or at each why the sheet is none.
+pub fn host(input: &[u8]) -> Vec<u8> {
+    let block = sheet::read(input).map_err(|refusal| refusal.cause);
+    let answer = |code| {
+        let block = block.as_ref().map_err(|&cause| cause)?;
+        let row = block.row(code).ok_or(Cause::CodeIdle)?;
+        Ok(row.constant())
+    };
+    let line = |code| match answer(code) {
+        Ok(constant) => format!("s{code:02} constant={constant}\n"),
+        Err::<_, Cause>(cause) => format!("s{code:02} fault={}\n", cause.number()),
+    };
+    (0..16usize).map(line).collect::<String>().into_bytes()
 }
 
 pub fn price(input: &[u8]) -> Vec<u8> {
