@@ -246,8 +246,8 @@ mod tests {
 
     #[test]
     fn every_work_can_be_done() {
-        for work in works(1).iter().filter(|work| work.verb != "fuse") {
-            assert!(perform(&work.input(2)).is_ok(), "{}", work.name);
+        for work in works(1) {
+            assert!(perform(&work.input(1)).is_ok(), "{}", work.name);
         }
     }
 }

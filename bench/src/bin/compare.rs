@@ -36,7 +36,7 @@ impl Options {
             suffix: String::new(),
             seed: 1,
             percent: 100,
-            seconds: 170,
+            seconds: 600,
             threads: 2,
             family: String::new(),
             plants: Vec::new(),
@@ -100,6 +100,9 @@ fn run() -> Result<bool, Box<dyn Error>> {
     let options = Options::read(env::args().skip(1))?;
     let crates = Crates::in_folder(&options.crates, &options.suffix);
     let families = options.families();
+    if families.is_empty() || options.threads == 0 {
+        return Err("nothing would be compared".into());
+    }
     if let Some(missing) = families
         .iter()
         .map(|family| crates.binary(family.program))
@@ -145,12 +148,16 @@ fn compared(
         options.seed,
         start.elapsed().as_secs()
     );
-    if is_cut_short(options, families, &outcomes) {
+    let is_cut_short = is_cut_short(options, families, &outcomes);
+    if is_cut_short {
         println!("time ran out before all inputs were drawn");
     }
     print!("{}", report::last_line(&outcomes));
-    let agreed = outcomes.iter().all(|outcome| outcome.differed == 0) && stored.0 == stored.1;
-    Ok(agreed && (not_met.is_empty() || !is_whole))
+    let agreed = outcomes
+        .iter()
+        .all(|outcome| outcome.differed == 0 && outcome.inputs > 0);
+    let is_complete = !is_cut_short && (not_met.is_empty() || !is_whole);
+    Ok(agreed && stored.0 == stored.1 && is_complete)
 }
 
 fn is_cut_short(options: &Options, families: &[Family], outcomes: &[Outcome]) -> bool {
@@ -173,7 +180,8 @@ fn stored(families: &[Family], crates: &Crates) -> Result<(usize, usize), Box<dy
     Ok((agreed, programs.len()))
 }
 
-/// Turns one rule of the reference and compares until something differs.
+/// Turns one rule of the reference and compares until something differs, which
+/// has to agree where the rule is not turned.
 fn is_caught(options: &Options, families: &[Family], crates: &Crates, plant: Plant) -> bool {
     planted::turn(Some(plant));
     let outcomes = compare(families, crates, &options.plan(true));
@@ -182,10 +190,10 @@ fn is_caught(options: &Options, families: &[Family], crates: &Crates, plant: Pla
         .iter()
         .zip(&outcomes)
         .find_map(|(family, outcome)| {
-            outcome
-                .first
-                .as_ref()
-                .map(|first| format!("caught by input {} of {}", first.index, family.name))
+            let first = outcome.first.as_ref()?;
+            let answer = crates.answer(family.program, &first.input).ok()?;
+            let agrees = answer == family.program.run(&first.input);
+            agrees.then(|| format!("caught by input {} of {}", first.index, family.name))
         });
     println!(
         "{}: {}",

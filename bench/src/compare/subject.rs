@@ -5,12 +5,16 @@ use std::path::{Path, PathBuf};
 use std::process::{Child, ChildStdout, Command, ExitStatus, Stdio};
 use std::sync::mpsc;
 use std::thread;
-use std::time::Duration;
+use std::time::{Duration, Instant};
 
-use crate::programs::Program;
+use crate::programs::{host_codes, Program};
 
-/// A program that answers nothing for so long is taken to answer never.
+/// A program that has not ended after so long, or its output has not, is taken
+/// to end never.
 const PATIENCE: Duration = Duration::from_secs(60);
+
+/// For so long a program's end is looked for without a pause.
+const BRIEF: Duration = Duration::from_millis(5);
 
 /// A length of pieces that leaves an input whole.
 pub const WHOLE: usize = usize::MAX;
@@ -55,6 +59,9 @@ impl Crates {
         let mut command = Command::new(self.binary(program));
         if program.is_host() {
             command.arg(program.name());
+        }
+        if program == Program::HostSheet {
+            command.args(host_codes().map(|code| code.to_string()));
         }
         command
     }
@@ -121,13 +128,31 @@ pub fn run<T>(
     });
     let output = read_all(&mut child, stdout);
     let asked = ask(&child);
-    let status = child.wait()?;
+    let status = wait(&mut child)?;
     let _ = writer.join();
     Ok(Run {
         status,
         output: output?,
         asked,
     })
+}
+
+/// Most programs end as their output does, so that there is hardly a wait.
+fn wait(child: &mut Child) -> io::Result<ExitStatus> {
+    let start = Instant::now();
+    loop {
+        if let Some(status) = child.try_wait()? {
+            return Ok(status);
+        }
+        match start.elapsed() {
+            waited if waited > PATIENCE => {
+                child.kill()?;
+                return Err(io::Error::new(io::ErrorKind::TimedOut, "no end"));
+            }
+            waited if waited > BRIEF => thread::sleep(BRIEF),
+            _ => thread::yield_now(),
+        }
+    }
 }
 
 fn read_all(child: &mut Child, stdout: Option<ChildStdout>) -> io::Result<Vec<u8>> {

@@ -79,7 +79,7 @@ impl Tally {
 /// The host says the code before what a sheet gives at it, as `s07 `.
 fn without_code(program: Program, line: &[u8]) -> &[u8] {
     match program {
-        Program::HostSheet => line.get(4..).unwrap_or_default(),
+        Program::HostSheet => line.splitn(2, |&byte| byte == b' ').nth(1).unwrap_or(line),
         _ => line,
     }
 }

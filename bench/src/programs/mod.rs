@@ -8,6 +8,11 @@ use std::fmt;
 
 use crate::refusal::{Cause, Refusal};
 
+/// The codes that the host is asked for: all sixteen, and some above.
+pub fn host_codes() -> impl Iterator<Item = usize> {
+    (0..=16).chain([99, usize::MAX])
+}
+
 #[derive(Clone, Copy, Debug, PartialEq, Eq)]
 pub enum Program {
     Constants,
@@ -19,7 +24,7 @@ pub enum Program {
     Replay,
     /// The example host in C, on chain lines.
     HostChains,
-    /// The same on a sheet, at each code.
+    /// The same on a sheet, at some codes.
     HostSheet,
 }
 

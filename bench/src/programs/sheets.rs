@@ -4,7 +4,7 @@ use crate::block::Block;
 use crate::depth::depth;
 use crate::port::Port;
 use crate::price::{self, AdderPart, Multiplexer, PriceList, UnitPrices};
-use crate::programs::Fault;
+use crate::programs::{host_codes, Fault};
 use crate::refusal::{Cause, Refusal};
 use crate::sheet;
 
@@ -29,19 +29,22 @@ fn constants_and_depth(block: &Block) -> String {
         .collect()
 }
 
-/// Each code of the sheet, or at each why the sheet is none.
+/// Each code that the host asks for, or at each why the sheet is none.
 pub fn host(input: &[u8]) -> Vec<u8> {
     let block = sheet::read(input).map_err(|refusal| refusal.cause);
     let answer = |code| {
         let block = block.as_ref().map_err(|&cause| cause)?;
+        if code > 15 {
+            return Err(Cause::CodeAboveFifteen);
+        }
         let row = block.row(code).ok_or(Cause::CodeIdle)?;
         Ok(row.constant())
     };
     let line = |code| match answer(code) {
         Ok(constant) => format!("s{code:02} constant={constant}\n"),
-        Err::<_, Cause>(cause) => format!("s{code:02} fault={}\n", cause.number()),
+        Err(cause) => format!("s{code:02} fault={}\n", cause.number()),
     };
-    (0..16usize).map(line).collect::<String>().into_bytes()
+    host_codes().map(line).collect::<String>().into_bytes()
 }
 
 pub fn price(input: &[u8]) -> Vec<u8> {
