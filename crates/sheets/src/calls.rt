@@ -10,7 +10,7 @@ use adders::Refusal;
 use blocks::Block;
 use reading::read_block;
 
-// Writes the sheet of a block to the front of a buffer, and answers its length, which at most 4,096 bytes always hold.
+// Writes the sheet of a block to the front of a buffer, and answers its length. A buffer of 4,096 bytes always holds it.
 pub fn write(block: &Block, buffer: &mut [u8]) -> Result<usize, Refusal>
     ensures answer { Written (written_sheet block.now) buffer.old result buffer.new }
     ensures few { length (written_sheet block.now) ≤ 4096 }

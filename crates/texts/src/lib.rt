@@ -1,4 +1,4 @@
-// The text of a wiring sheet, piece by piece: read from bytes, and written to a text in place.
+// The keys and the text of a wiring sheet, and readers of its pieces and lines.
 #![tactic(auto)]
 
 pub mod keys;

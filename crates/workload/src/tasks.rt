@@ -91,7 +91,10 @@ pub fn write_again(sheet: &[u8], rounds: u32) -> Result<usize, LineRefusal> {
         return Err(refusal.at_line(0));
     }
     for _round in 0..rounds {
-        length = sheets::write(&block, &mut buffer).unwrap_or(0);
+        match sheets::write(&block, &mut buffer) {
+            Ok(written) => length = written,
+            Err(refusal) => return Err(refusal.at_line(0)),
+        }
     }
     Ok(length)
 }
