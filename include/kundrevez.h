@@ -21,7 +21,7 @@
  *   -42   a line of a sheet has a number out of its limits, or too many inputs
  *   -43   a port line names one input twice
  *   -44   a code line selects an input that its port lacks
- *   -45   a code line selects a row that breaks the block's rule
+ *   -45   a code line selects a row that breaks a rule of rows
  *   -46   a port line has an input that no row selects
  */
 #ifndef KUNDREVEZ_H

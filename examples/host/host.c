@@ -4,8 +4,9 @@
  *     host chains < FILE          a line for each chain line
  *     host sheet [CODE..] < FILE  a line for each code, for all sixteen where none is named
  *
- * The exit status is 0 where the input was read, whatever was answered, and 2 where it could not be.
+ * The exit status is 0 where all was read and printed, whatever was answered, and else 2.
  */
+#include <ctype.h>
 #include <errno.h>
 #include <stdbool.h>
 #include <stdio.h>
@@ -50,7 +51,7 @@ static bool number(const char *word, size_t *value)
     char *end;
     errno = 0;
     unsigned long long read = strtoull(word, &end, 10);
-    if (errno != 0 || end == word || *end != '\0' || word[0] == '-' || read > SIZE_MAX)
+    if (errno != 0 || !isdigit((unsigned char)word[0]) || *end != '\0' || read > SIZE_MAX)
         return false;
     *value = (size_t)read;
     return true;
@@ -62,18 +63,27 @@ static int usage(void)
     return 2;
 }
 
+static int printed(void)
+{
+    if (fflush(stdout) == 0 && !ferror(stdout))
+        return 0;
+    fputs("host: the output cannot be written\n", stderr);
+    return 2;
+}
+
 static int tell_sheet(const uint8_t *sheet, size_t length, int count, char **words)
 {
-    if (count == 0)
-        for (size_t code = 0; code < 16; code++)
-            tell_code(sheet, length, code);
-    for (int i = 0; i < count; i++) {
-        size_t code;
+    size_t code;
+    for (int i = 0; i < count; i++)
         if (!number(words[i], &code))
             return usage();
-        tell_code(sheet, length, code);
-    }
-    return 0;
+    for (int i = 0; i < count; i++)
+        if (number(words[i], &code))
+            tell_code(sheet, length, code);
+    if (count == 0)
+        for (code = 0; code < 16; code++)
+            tell_code(sheet, length, code);
+    return printed();
 }
 
 int main(int argc, char **argv)
@@ -87,7 +97,7 @@ int main(int argc, char **argv)
     }
     if (strcmp(argv[1], "chains") == 0 && argc == 2) {
         tell_chains(input, length);
-        return 0;
+        return printed();
     }
     if (strcmp(argv[1], "sheet") == 0)
         return tell_sheet(input, length, argc - 2, argv + 2);
