@@ -7,7 +7,7 @@ use forms::FormError;
 use std::error::Error;
 use std::fmt;
 
-// Which rule of the block a row of a wiring sheet breaks, with the adder's number, 0 for the output.
+// Which rule a row of a wiring sheet breaks, with the adder's number, 0 for the output.
 #[derive(Clone, Copy, Debug, PartialEq, Eq)]
 pub enum RowFault {
     // the output reads an adder that is empty, or does not read one that is filled
@@ -39,7 +39,7 @@ pub enum Refusal {
     CodeAboveFifteen,
     // a select code that has a row already
     CodeLive,
-    // a chain has more adders than the block
+    // a chain has more adders than the block, or a row uses one that the block has not
     BlockTooSmall,
     // a select code that has no row
     CodeIdle,
@@ -67,7 +67,7 @@ pub enum Refusal {
     InputRepeated(usize),
     // a row selects an input that its port lacks
     InputAbsent(usize),
-    // the row on this line breaks the block's rule
+    // the row that this line selects breaks a rule of rows
     RowBroken(usize, RowFault),
     // a port line has an input that no row selects
     InputUnselected(usize),

@@ -10,7 +10,7 @@ use adders::Operand;
 use blocks::Block;
 
 impl Port {
-    // The operand that the row at a code puts there, none where the code is idle.
+    // The operand that the row at a code puts there, none where there is no row or it does not use the port.
     pub fn operand_at(self, block: &Block, code: usize) -> Option<Operand>
         ensures { result ≡ put_at (row_of block.now code) self }
     {
