@@ -30,19 +30,18 @@ module _ (b : Block) (j : ℕ) (past : b.adders < j) where
   unused f none None h = none
   unused f none (Some a) h = absurd (false≢true (sym h))
 
-  pub left_past : [] ≡ inputs b (Left j)
-  left_past = nothing_put b (Left j) (λ code. by (row_of b code) (b.within code j past))
+  past_none : (p : Port) (f : Option Adder → Option Operand) → f None ≡ None → put_at None p ≡ None → ((r : Row) → put_at (Some r) p ≡ f (adder_at r j)) → [] ≡ inputs b p
+  past_none p f none idle live = nothing_put b p (λ code. by (row_of b code) (b.within code j past))
     where
-      by : (o : Option Row) → row_uses o j ≡ false → put_at o (Left j) ≡ None
-      by None h = refl
-      by (Some r) h = unused left_of refl (adder_at r j) h
+      by : (o : Option Row) → row_uses o j ≡ false → put_at o p ≡ None
+      by None h = idle
+      by (Some r) h = live r ∙ unused f none (adder_at r j) h
+
+  pub left_past : [] ≡ inputs b (Left j)
+  left_past = past_none (Left j) left_of refl refl (λ r. refl)
 
   pub right_past : [] ≡ inputs b (Right j)
-  right_past = nothing_put b (Right j) (λ code. by (row_of b code) (b.within code j past))
-    where
-      by : (o : Option Row) → row_uses o j ≡ false → put_at o (Right j) ≡ None
-      by None h = refl
-      by (Some r) h = unused right_of refl (adder_at r j) h
+  right_past = past_none (Right j) right_of refl refl (λ r. refl)
 
 -- lists that are right at each number up to 8, where none is due past it
 pub at_each : (f : ℕ → List Operand) (lists : List (List Operand)) → length lists ≡ 9 → ((j : ℕ) → 9 ≤ j → [] ≡ f j) → ((j : ℕ) → j < 9 → slice_index_or lists j [] ≡ f j) → (j : ℕ) → slice_index_or lists j [] ≡ f j
