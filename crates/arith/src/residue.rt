@@ -11,22 +11,14 @@ use std::marker::PhantomData;
 const MOST_AT_ONCE: u8 = 32;
 
 // A kind of residue, which names its modulus, from 2 to 65,536.
-pub trait Modulus: Copy + Default {
+pub trait Modulus {
     const MODULUS: u32;
 
     ghost MODULUS: { ℕ };
 
     ghost bounds: { Modular MODULUS };
-
-    // The constant, as a call that says what it is.
-    final fn divisor() -> u32
-        ensures { result ≡ MODULUS }
-    {
-        Self::MODULUS
-    }
 }
 
-#[derive(Clone, Copy, Default, PartialEq, Eq, Debug)]
 pub struct Mod255;
 
 impl Modulus for Mod255 {
@@ -37,7 +29,6 @@ impl Modulus for Mod255 {
     ghost bounds = { record { least = lit≤ tt; most = lit≤ tt } };
 }
 
-#[derive(Clone, Copy, Default, PartialEq, Eq, Debug)]
 pub struct Mod257;
 
 impl Modulus for Mod257 {

@@ -7,7 +7,6 @@ use rows::Row;
 use running::{run, run_all};
 
 // The smallest modulus.
-#[derive(Clone, Copy, Default)]
 pub(crate) struct Mod2;
 
 impl Modulus for Mod2 {
@@ -19,7 +18,6 @@ impl Modulus for Mod2 {
 }
 
 // The largest.
-#[derive(Clone, Copy, Default)]
 pub(crate) struct Mod65536;
 
 impl Modulus for Mod65536 {
