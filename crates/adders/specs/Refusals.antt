@@ -1,6 +1,7 @@
 -- The table of refusals: for each case its number and its place.
 --   number  by which the cause is known outside
---   place   a byte of a line from 0, an adder from 1 with 0 for the output, a line from 1, a length; 0 where there is none to give
+--   place   a byte of a line from 0, an adder from 1 with 0 for the output, a line from 1, a length, a step from 1,
+--           a code, a tap from 0; 0 where there is none to give
 use Rattle.std.specs.Prelude.{ℕ, List, ◌++◌, codes, decimal}
 use Rattle.adders.specs.declared.refusals.Refusal.{Refusal}
 use Rattle.adders.specs.declared.refusals.Refusal.TheVariants as R
@@ -46,6 +47,19 @@ refusal_entry (R.InputRepeated line) = entry 43 line
 refusal_entry (R.InputAbsent line) = entry 44 line
 refusal_entry (R.RowBroken line fault) = entry 45 line
 refusal_entry (R.InputUnselected line) = entry 46 line
+refusal_entry (R.StepTooHigh step) = entry 51 step
+refusal_entry (R.StepFalls step) = entry 52 step
+refusal_entry (R.StepBothTooCheap step) = entry 53 step
+refusal_entry R.ConstantOutOfRange = entry 54 0
+refusal_entry (R.ConstantTaken code) = entry 55 code
+refusal_entry R.TapCountOutOfRange = entry 56 0
+refusal_entry R.FilterLengthsDiffer = entry 57 0
+refusal_entry (R.TapIdle tap) = entry 58 tap
+refusal_entry R.PathSumChanged = entry 59 0
+refusal_entry R.SampleOutOfRange = entry 60 0
+refusal_entry R.CodeReserved = entry 61 0
+refusal_entry R.CodeNotReserved = entry 62 0
+refusal_entry R.PlaceReserved = entry 63 0
 
 -- how a refusal is printed
 abbrev pub refusal_text : Refusal → List ℕ

@@ -16,7 +16,7 @@ pub enum RowFault {
     OutOfRange(usize),
 }
 
-// The lines of a sheet and the adders of a chain count from 1, the bytes of a line from 0.
+// The lines of a sheet, the adders of a chain and the steps of a catalogue count from 1, bytes of a line and taps from 0.
 #[derive(Clone, Copy, Debug, PartialEq, Eq)]
 pub enum Refusal {
     // a chain line has more than 200 bytes
@@ -71,6 +71,32 @@ pub enum Refusal {
     RowBroken(usize, RowFault),
     // a port line has an input that no row selects
     InputUnselected(usize),
+    // a price of this step of a catalogue is above 60,000
+    StepTooHigh(usize),
+    // a price of this step of a catalogue is below that of the step before it
+    StepFalls(usize),
+    // at this step of a catalogue an adder of both kinds is cheaper than one that only adds or only subtracts
+    StepBothTooCheap(usize),
+    // a constant outside 1 to 65,535
+    ConstantOutOfRange,
+    // this live code gives the constant already, and no lower one does
+    ConstantTaken(usize),
+    // a filter has no tap, or more than 64
+    TapCountOutOfRange,
+    // a filter's input and output buffers have different lengths
+    FilterLengthsDiffer,
+    // this tap of a filter, counted from 0, has a code that is idle or above 15
+    TapIdle(usize),
+    // a set of shifts changes the sum of a path
+    PathSumChanged,
+    // a sample outside -8,388,480 to 8,388,479
+    SampleOutOfRange,
+    // a code that is reserved
+    CodeReserved,
+    // the code of a slip that is not reserved at this place
+    CodeNotReserved,
+    // a place that has a reserved code
+    PlaceReserved,
 }
 
 impl RowFault {
@@ -124,6 +150,19 @@ impl Refusal {
             Refusal::InputAbsent(_) => 44,
             Refusal::RowBroken(_, _) => 45,
             Refusal::InputUnselected(_) => 46,
+            Refusal::StepTooHigh(_) => 51,
+            Refusal::StepFalls(_) => 52,
+            Refusal::StepBothTooCheap(_) => 53,
+            Refusal::ConstantOutOfRange => 54,
+            Refusal::ConstantTaken(_) => 55,
+            Refusal::TapCountOutOfRange => 56,
+            Refusal::FilterLengthsDiffer => 57,
+            Refusal::TapIdle(_) => 58,
+            Refusal::PathSumChanged => 59,
+            Refusal::SampleOutOfRange => 60,
+            Refusal::CodeReserved => 61,
+            Refusal::CodeNotReserved => 62,
+            Refusal::PlaceReserved => 63,
         }
     }
 
@@ -147,6 +186,11 @@ impl Refusal {
             | Refusal::InputRepeated(line)
             | Refusal::InputAbsent(line)
             | Refusal::InputUnselected(line) => line,
+            Refusal::StepTooHigh(step)
+            | Refusal::StepFalls(step)
+            | Refusal::StepBothTooCheap(step) => step,
+            Refusal::ConstantTaken(code) => code,
+            Refusal::TapIdle(tap) => tap,
             _ => 0,
         }
     }
