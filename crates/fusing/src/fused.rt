@@ -53,6 +53,6 @@ pub fn fuse<L: PriceList>(
 {
     tried(block, chain, code)?;
     let row = cheapest_row(block, chain, list)?;
-    block.fill(code, row)?;
+    *block = block.with_row(code, row)?;
     Ok(price(block, list))
 }

@@ -33,7 +33,7 @@ impl PortLists {
         for code in 0..16 {
             if let Some(after) = skip(rest, &keys::of_code(code)) {
                 let (row, after) = self.code_line(after, adders, line)?;
-                block.fill(code, row)?;
+                block = block.with_row(code, row)?;
                 rest = after;
                 line += 1;
             }

@@ -1,6 +1,6 @@
 // Building a block row by row.
 ghost use Rattle.std.specs.Prelude.{◌≡◌, Some};
-ghost use Rattle.adders.specs.Rules.{Answered, Changed};
+ghost use Rattle.adders.specs.Rules.{Answered};
 ghost use Rattle.blocks.specs.Blocks.{Rewritten};
 ghost use Rattle.blocks.specs.Filling.{Bare, size_rules, filling_rules, uses_none_past};
 
@@ -42,9 +42,9 @@ impl Block {
         true
     }
 
-    // Puts a row at an idle code.
-    pub fn fill(&mut self, code: usize, row: Row) -> Result<(), Refusal>
-        ensures { Changed (filling_rules self.old code row) self.old (λ _ after. Rewritten self.old code (Some row) after) result self.new }
+    // The block with a row at an idle code; the block itself stays.
+    pub fn with_row(self, code: usize, row: Row) -> Result<Block, Refusal>
+        ensures { Answered (filling_rules self code row) (λ after. Rewritten self code (Some row) after) result }
     {
         if code > 15 {
             return Err(Refusal::CodeAboveFifteen);
@@ -57,11 +57,10 @@ impl Block {
         }
         let mut table = self.table;
         table.put(code, row)?;
-        *self = Block {
+        Ok(Block {
             adders: self.adders,
             width: self.width,
             table,
-        };
-        Ok(())
+        })
     }
 }
