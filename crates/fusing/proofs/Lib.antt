@@ -4,3 +4,4 @@ mod Parts
 mod Following
 mod Choosing
 pub mod Determined
+mod Swaps

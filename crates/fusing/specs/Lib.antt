@@ -1,2 +1,3 @@
 pub mod Fusing
 pub mod Tasks
+pub mod Swaps

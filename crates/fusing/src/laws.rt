@@ -1,7 +1,13 @@
 // What holds of every fusing.
 ghost use Rattle.fusing.specs.Fusing.{FusingIsDetermined};
+ghost use Rattle.fusing.specs.Swaps.{SwapsPay};
 
 // The placement, the answer and the block after it are determined by the block before, the chain, the code and the prices.
 pub fn fusing_is_determined()
     ensures { FusingIsDetermined }
+{}
+
+// An adder is swapped only where the block would cost more with it as it is.
+pub fn swaps_have_to_pay()
+    ensures { SwapsPay }
 {}

@@ -1,5 +1,5 @@
 -- What parts are, and how the prices of blocks compare.
-use Rattle.std.specs.Prelude.{◌≡◌, ℕ, ◌+◌, ◌≤◌, true, ◌||◌, ◌⊎◌, List, Some, None, Option, Result, max}
+use Rattle.std.specs.Prelude.{◌≡◌, ℕ, ◌+◌, ◌*◌, ◌^◌, ◌≤◌, true, ◌||◌, ◌⊎◌, List, Some, None, Option, Result, max}
 use Rattle.adders.specs.declared.refusals.Refusal.{Refusal}
 use Rattle.adders.specs.declared.wiring.Operand.{Operand}
 use Rattle.adders.specs.declared.wiring.Sign.{Sign}
@@ -9,10 +9,13 @@ use Rattle.blocks.specs.Blocks.{row_of, Rewritten}
 use Rattle.blocks.specs.Calls.{retiring, Step}
 use Rattle.ports.specs.declared.port.Port.{Port}
 use Rattle.ports.specs.Ports.{operand_at}
-use Rattle.ports.specs.Inputs.{insert, inputs}
+use Rattle.ports.specs.Inputs.{insert, inputs, Among}
+use Rattle.bits.specs.Bits.{bits}
+use Rattle.adders.specs.Values.{value}
 use Rattle.prices.specs.Tables.{Tables, Lawful}
 use Rattle.pricing.specs.declared.net.Net.{Net}
-use Rattle.pricing.specs.Nets.{value_on, largest_on}
+use Rattle.pricing.specs.declared.net.Net.TheVariants.{OfPort}
+use Rattle.pricing.specs.Nets.{value_on, largest_on, width_of}
 use Rattle.pricing.specs.Parts.{sign_used, is_sign, met}
 use Rattle.pricing.specs.Prices.{block_price}
 
@@ -49,6 +52,12 @@ pub record OneMore (row : Row) (before after : Block) : Type 0 where
 -- so that the price splits part by part
 abbrev pub OneRowMore : Type 0
 OneRowMore = (code : ℕ) (row : Row) (before after : Block) → row_of before code ≡ None → Rewritten before code (Some row) after → OneMore row before after
+
+-- an operand that stands at its port already, with a value of no more bits than the port has, changes nothing there
+abbrev pub PortStays : Type 0
+PortStays = (code : ℕ) (row : Row) (before after : Block) (p : Port) (o : Operand) → row_of before code ≡ None → Rewritten before code (Some row) after
+    → operand_at row p ≡ Some o → Among o (inputs before p) → bits (value row.slots o.source * 2 ^ o.shift) ≤ bits (largest_on before (OfPort p))
+    → (inputs after p ≡ inputs before p) × (width_of after (OfPort p) ≡ width_of before (OfPort p))
 
 -- under every lawful list, a costs no more than b
 abbrev pub NeverDearer : Block → Block → Type 0

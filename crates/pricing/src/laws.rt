@@ -1,5 +1,5 @@
 // What holds of the parts and the price of every block.
-ghost use Rattle.pricing.specs.Laws.{PartsLaw, OneRowMore, RowsNeverCheapen, CallsNeverCheapen};
+ghost use Rattle.pricing.specs.Laws.{PartsLaw, OneRowMore, PortStays, RowsNeverCheapen, CallsNeverCheapen};
 
 // A width rests on the largest value that some live row has there, and a kind on the signs that live rows have there.
 #[tactic(auto, using(crate::proofs::Meanings::parts_law))]
@@ -11,6 +11,11 @@ pub fn parts_are_what_rows_use()
 #[tactic(auto, using(crate::proofs::Adding::one_row_more))]
 pub fn one_row_changes_each_part_alone()
     ensures { OneRowMore }
+{}
+
+// An operand that stands at its port already, and needs no more bits than the port has, changes nothing there.
+pub fn an_operand_in_place_changes_nothing()
+    ensures { PortStays }
 {}
 
 // Under every lawful list, a block with some of the rows of another costs no more.
