@@ -41,7 +41,7 @@ abbrev pub FewEnough : List Adder → Result (List Adder) Refusal → Type 0
 FewEnough xs (Ok ys) = (length xs ≤ 8) × (ys ≡ xs)
 FewEnough xs (Err e) = (8 < length xs) × (e ≡ TooManyAdders)
 
--- every operand, adder and output value lies from 1 to 2,147,483,647
+-- what every value has to be, of an operand, an adder or an output: positive, and of at most 31 bits
 abbrev pub in_range : ℕ → Bool
 in_range v = nat_le 1 v && nat_le v 2147483647
 

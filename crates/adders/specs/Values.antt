@@ -1,4 +1,4 @@
--- The shift-and-add rule: what a sample of 1 becomes at each source.
+-- The shift-and-add rule: at each source, the factor by which a sample is multiplied there.
 --   slots   the adders of a chain or of a row, adder j at place j - 1; None where a row does not use it
 --   vs      the values of the sources so far: the sample's first, then adder 1's, and so on
 --   value   of a source: 1 at the sample; an adder's left operand plus or minus its right
@@ -11,11 +11,11 @@ use Rattle.adders.specs.declared.wiring.Sign.TheVariants.{Plus, Minus}
 abbrev pub Slots : Type 0
 Slots = List (Option Adder)
 
--- a shift s multiplies by 2 ^ s
+-- an operand is its source, doubled as often as its shift says
 abbrev pub operand_value : List ℕ → Operand → ℕ
 operand_value vs o = slice_index vs o.source * 2 ^ o.shift
 
--- minus takes the right from the left; a difference below 1 is 0 here, and out of range like any other
+-- under minus the left operand less the right one; where nothing positive is left this is 0, which is out of range as well
 abbrev pub combined : Sign → ℕ → ℕ → ℕ
 combined Plus l r = l + r
 combined Minus l r = l - r

@@ -11,7 +11,7 @@ const MOST_SHIFT: u8 = 30;
 
 const MOST_VALUE: u64 = 2_147_483_647;
 
-// Whether a value lies from 1 to 2,147,483,647.
+// Whether a value is positive and fits 31 bits.
 fn in_range(value: u64) -> bool
     ensures { result ≡ in_range value }
 {

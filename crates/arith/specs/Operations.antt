@@ -1,7 +1,7 @@
 -- What the samples of an arithmetic mean, and what multiplying a meaning is.
 --   Operations   a neutral meaning, a sum and a difference
---   Laws         what they have to keep: sums may be bracketed and turned round at will, the neutral meaning changes no sum,
---                and a difference plus what was taken away is what was there before
+--   Laws         what they have to keep: those of a commutative group. Addition is associative and commutative, the neutral
+--                meaning is its unit, and adding y to x - y gives x again
 --   times        the sum of n copies of a meaning
 --   doubled      a meaning added to itself, s times over
 use Rattle.std.specs.Prelude.{◌≡◌, ℕ, zero, suc}

@@ -16,11 +16,11 @@ use Rattle.chains.specs.Rules.{constant, chain_rules, Keeps}
 abbrev pub chain_adders : Chain → List Adder
 chain_adders c = c.adders
 
--- what a sample of 1 becomes at the output
+-- the factor by which a sample is multiplied at the output
 abbrev pub chain_constant : Chain → ℕ
 chain_constant c = constant (chain_adders c) c.shift
 
--- what a sample of 1 becomes at an adder, if there is one of this number
+-- the same at an adder, if there is one of this number
 abbrev pub adder_value_at : Chain → ℕ → Option ℕ
 adder_value_at c j = cond (nat_le 1 j && nat_le j (length c.adders)) (Some (value (wired (chain_adders c)) j)) None
 

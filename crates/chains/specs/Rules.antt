@@ -9,7 +9,7 @@ use Rattle.adders.specs.declared.refusals.Refusal.TheVariants.{TooManyAdders, Ad
 use Rattle.adders.specs.Values.{Slots, sample, value, values_from, wired, reads}
 use Rattle.adders.specs.Rules.{Rule, rule, first_broken, rules_from, output_rules, InRange, Sound}
 
--- what the output makes of a sample of 1: the last adder, or the sample where there is none, under the output shift
+-- the factor of the output: that of the source of the highest number, which of an empty chain is the sample, doubled as often as the output shift says
 abbrev pub constant : List Adder → ℕ → ℕ
 constant xs out = value (wired xs) (length xs) * 2 ^ out
 
@@ -25,7 +25,7 @@ Valued xs (Err e) = first_broken (rules_from sample (wired xs)) ≡ Some e
 abbrev pub some_reads : ℕ → List Adder → Bool
 some_reads source xs = list_any (reads source) xs
 
--- each of n adders, from number j on, is read by a later one
+-- of n adders, from number j on, each is a source of some adder after it
 abbrev pub read_rules_from : List Adder → ℕ → ℕ → List Rule
 read_rules_from xs j zero = []
 read_rules_from xs j (suc n) = rule (some_reads j (drop j xs)) (AdderUnread j) ∷ read_rules_from xs (j + 1) n

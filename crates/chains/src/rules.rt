@@ -19,7 +19,7 @@ fn some_reads(adders: &[Adder], source: usize) -> bool
     adders.iter().any(|adder| adder.reads(source))
 }
 
-// Each adder but the last is read by a later one; the lowest that is not is told.
+// No adder but the last is idle: the lowest that nothing after it takes as a source is told.
 fn all_read(adders: &[Adder]) -> Result<(), Refusal>
     ensures { Tried (read_rules adders.now) tt result }
 {

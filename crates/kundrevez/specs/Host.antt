@@ -1,6 +1,6 @@
 -- What a host program in C is answered.
 --   line, sheet   the bytes that the host hands over
---   constant      what a sample of 1 becomes
+--   constant      the factor by which a sample is multiplied
 use Rattle.std.specs.Prelude.{◌≡◌, ℕ, suc, Bool, true, false, List, Some, Ok, Err, Result, ℤ, pos, ◌-ℤ◌}
 use Rattle.adders.specs.declared.refusals.Refusal.{Refusal}
 use Rattle.adders.specs.Refusals.{refusal_entry}
@@ -27,7 +27,7 @@ pub data LineConstant (line : List ℕ) : Result ℕ Refusal → Type 0 where
   of_chain : {c : Chain} → Reading line (Ok c) → LineConstant line (Ok (chain_constant c))
   turned_down : {e : Refusal} → Reading line (Err e) → LineConstant line (Err e)
 
--- The sheet is judged before the code: why the bytes are no sheet; or why the code has no constant in the block that they are a sheet of, a code above 15 before an idle one; or the constant.
+-- What stands against the sheet comes first: why the bytes are no sheet; or why the code has no constant in the block that they are a sheet of, a code above 15 before an idle one; or the constant.
 pub data SheetConstant (sheet : List ℕ) (code : ℕ) : Result ℕ Refusal → Type 0 where
   no_sheet : {e : Refusal} → Refused sheet e → SheetConstant sheet code (Err e)
   no_constant : {b : Block} {e : Refusal} → IsSheet sheet b → first_broken (live_rules code (constant_at b code)) ≡ Some e → SheetConstant sheet code (Err e)

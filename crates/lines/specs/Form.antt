@@ -8,7 +8,7 @@ use Rattle.adders.specs.declared.wiring.Adder.{Adder}
 use Rattle.adders.specs.declared.wiring.Sign.{Sign}
 use Rattle.adders.specs.declared.wiring.Sign.TheVariants.{Plus, Minus}
 
--- a number has one or two digits and no leading zero; 48 is the digit 0
+-- a number up to 99 in base ten: a digit, or two of which the first is not 0 (whose code is 48)
 pub data Decimal : ℕ → List ℕ → Type 0 where
   one : {d : ℕ} → d ≤ 9 → Decimal d ((48 + d) ∷ [])
   two : {d e : ℕ} → 1 ≤ d → d ≤ 9 → e ≤ 9 → Decimal (10 * d + e) ((48 + d) ∷ (48 + e) ∷ [])

@@ -1,4 +1,4 @@
--- A port's inputs: the different operands that live rows put there, ascending by source and then by shift.
+-- A port's inputs: what live rows put there, each operand once, ascending by source and then by shift.
 use Rattle.std.specs.Prelude.{◌≡◌, ℕ, Bool, true, ◌&&◌, ◌||◌, cond, ◌⊎◌, List, [], ◌∷◌, map, Some, None, Option, nat_lt, ◌==◌}
 use Rattle.adders.specs.declared.wiring.Operand.{Operand}
 use Rattle.blocks.specs.declared.model.Block.{Block}

@@ -9,7 +9,7 @@ use Rattle.rows.specs.Rows.{adder_at}
 use Rattle.ports.specs.declared.port.Port.{Port}
 use Rattle.ports.specs.declared.port.Port.TheVariants.{Left, Right, Output}
 
--- 1L, 1R, 2L and so on, then the output: from adder j on, where n adders are left
+-- left and right of each adder, ascending, and the output last: from adder j on, where n adders are left
 abbrev pub ports_from : ℕ → ℕ → List Port
 ports_from j zero = Output ∷ []
 ports_from j (suc n) = Left j ∷ Right j ∷ ports_from (suc j) n

@@ -17,7 +17,7 @@ impl Port {
         self.operand_of(&block.row(code).ok()?)
     }
 
-    // The different operands that live rows put there, ascending by source and then by shift.
+    // What live rows put there, each operand once, ascending by source and then by shift.
     pub fn inputs(self, block: &Block) -> InputList
         ensures { result ≡ inputs block.now self }
     {

@@ -14,7 +14,7 @@ pub enum Port {
 }
 
 impl Port {
-    // The port at a place of the order 1L, 1R, 2L and so on, then the output, of a block with so many adders.
+    // The port at a place, counted from 0, in the order of a block with so many adders: left and right of each adder, ascending, and the output last.
     pub fn nth(place: usize, adders: usize) -> Port
         ensures { result ≡ nth_port adders place }
     {

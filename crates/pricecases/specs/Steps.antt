@@ -6,7 +6,7 @@ use Rattle.prices.specs.declared.adder.AdderKind.{AdderKind}
 use Rattle.prices.specs.declared.adder.AdderKind.TheVariants.{Adds, Subtracts, Both}
 use Rattle.prices.specs.Tables.{AdderTable, MuxTable, LawfulAdders, LawfulMuxes}
 
--- the smallest step that is wide enough
+-- the first step of at least this width
 abbrev pub steps : ℕ → ℕ
 steps width = (width + 7) / 8
 

@@ -7,7 +7,7 @@ use prices::{AdderKind, AdderPart, Multiplexer, PriceList};
 #[derive(Clone, Copy)]
 pub struct StepList;
 
-// The smallest step that is wide enough.
+// The first step of at least this width.
 fn steps(width: u32) -> u32
     requires { width ≤ 63 }
     ensures value { result ≡ steps width }

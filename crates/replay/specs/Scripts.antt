@@ -11,7 +11,7 @@ use Rattle.calls.specs.declared.call.Unread.{Unread}
 use Rattle.calls.specs.Form.{SuppliedList, Reading}
 use Rattle.history.specs.Events.{Event, event_of}
 
--- the last line may lack its line feed
+-- the end of the input ends a line too
 pub data ScriptLines : List ℕ → List (Result (Call SuppliedList) Unread) → Type 0 where
   done : ScriptLines [] []
   next : {b : ℕ} {text line after : List ℕ} {r : Result (Call SuppliedList) Unread} {rs : List (Result (Call SuppliedList) Unread)} → FirstLine (b ∷ text) line after → Reading line r → ScriptLines after rs → ScriptLines (b ∷ text) (r ∷ rs)

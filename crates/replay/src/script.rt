@@ -14,7 +14,7 @@ pub struct Script {
 }
 
 impl Script {
-    // The last line may lack its line feed.
+    // The end of the input ends a line too.
     pub fn read(heap: Global, text: &[u8]) -> Result<Script, AllocError>
         ensures { IfOk result (λ script. ScriptLines text.now script.answers.items × (script.calls.items ≡ calls_in script.answers.items)) }
     {

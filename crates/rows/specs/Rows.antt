@@ -1,6 +1,6 @@
 -- Rows, and what making one answers.
 --   adder_at             the operands and the sign of an adder, if the row uses one of this number
---   row_value_at         what a sample of 1 becomes at it
+--   row_value_at         the factor by which a sample is multiplied at it
 --   RowJudged xs out r   r is what making a row of the slots xs and the output operand out answers
 --   RowOf                the row that a chain is
 use Rattle.std.specs.Prelude.{◌≡◌, ℕ, ◌-◌, cond, length, is_some, Some, None, Ok, Err, Option, Result, nat_le, slice_index_or}
@@ -18,7 +18,7 @@ use Rattle.rows.specs.Rules.{row_constant, row_rules}
 abbrev pub adder_at : Row → ℕ → Option Adder
 adder_at r j = cond (nat_le 1 j) (slice_index_or r.slots (j - 1) None) None
 
--- what a sample of 1 becomes at the output
+-- the factor by which a sample is multiplied at the output
 abbrev pub constant_of : Row → ℕ
 constant_of r = row_constant r.slots r.output
 
@@ -33,7 +33,7 @@ pub data RowJudged (xs : Slots) (out : Operand) : Result Row Refusal → Type 0 
   kept : {r : Row} → first_broken (row_rules xs out) ≡ None → r.slots ≡ xs → r.output ≡ out → RowJudged xs out (Ok r)
   broken : {e : Refusal} → first_broken (row_rules xs out) ≡ Some e → RowJudged xs out (Err e)
 
--- each adder of the chain in its slot, and the output reads the last one, or the sample where there is none, under the chain's output shift
+-- slot by slot the adders of the chain, and an output that reads the source of its highest number (of an empty chain that is the sample) with the output shift of the chain
 pub record RowOf (c : Chain) (r : Row) : Type 0 where
   pub slots : r.slots ≡ eight_slots (chain_adders c)
   pub source : r.output.source ≡ length (chain_adders c)

@@ -8,7 +8,7 @@ use Rattle.ports.specs.declared.port.Port.{Port}
 use Rattle.ports.specs.declared.port.Port.TheVariants.{Left, Right, Output}
 use Rattle.texts.specs.declared.selection.Selection.{Selection}
 
--- a number up to 99: one or two digits, no leading zero
+-- a number up to 99, as it is printed
 abbrev pub number : ℕ → List ℕ
 number n = if nat_lt n 10 then (48 + n) ∷ [] else (48 + n / 10) ∷ (48 + n % 10) ∷ []
 
@@ -43,7 +43,7 @@ abbrev pub mark : Sign → ℕ
 mark Plus = 43
 mark Minus = 45
 
--- an adder in a code line: the left input's number, the sign and the right input's number, or a minus where the code does not use it; a space after it
+-- an adder in a code line, with a space after it: which input it takes on its left, its sign, and which on its right; one minus where the code has nothing there
 abbrev pub entry : Option Selection → List ℕ
 entry None = 45 ∷ 32 ∷ []
 entry (Some s) = number s.left ++ (mark s.sign ∷ (number s.right ++ 32 ∷ []))

@@ -23,7 +23,7 @@ fn digit(text: &[u8]) -> Option<(u8, &[u8])>
     Some((Digit::of(*first)?.value(), rest))
 }
 
-// A number of one or two digits with no leading zero.
+// A number up to 99, as it is printed.
 #[tactic(auto, unfolding(crate::specs::Pieces::number_at))]
 pub fn number(text: &[u8]) -> Option<(u8, &[u8])>
     ensures { read_of result ≡ number_at text.now }
