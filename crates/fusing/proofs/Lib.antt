@@ -4,4 +4,5 @@ mod Parts
 mod Following
 mod Choosing
 pub mod Determined
+pub mod Books
 mod Swaps

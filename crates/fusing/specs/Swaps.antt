@@ -1,11 +1,10 @@
 -- When an adder is swapped.
---   d   an adder of the chain, counted from 0
---   p   a placement
+--   cost   what a block costs
+--   d      an adder of the chain, counted from 0
+--   p      a placement
 use Rattle.std.specs.Prelude.{◌≡◌, ℕ, zero, suc, ◌<◌, Bool, true, false, List, [], ◌∷◌}
 use Rattle.chains.specs.declared.model.Chain.{Chain}
 use Rattle.blocks.specs.declared.model.Block.{Block}
-use Rattle.prices.specs.Tables.{Tables}
-use Rattle.pricing.specs.Prices.{block_price}
 use Rattle.placing.specs.Placements.{Placement, swap, Placed}
 use Rattle.fusing.specs.Fusing.{Chosen}
 
@@ -20,4 +19,4 @@ as_it_is d p = record { places = p.places; swaps = kept_at d p.swaps }
 
 -- a swap pays: with that adder alone as it is, the block would cost more
 abbrev pub SwapsPay : Type 0
-SwapsPay = (t : Tables) (before : Block) (code : ℕ) (chain : Chain) (p : Placement) (d : ℕ) (after other : Block) → Chosen t before code chain p after → swap p d ≡ true → Placed before code chain (as_it_is d p) other → block_price t after < block_price t other
+SwapsPay = (cost : Block → ℕ) (before : Block) (code : ℕ) (chain : Chain) (p : Placement) (d : ℕ) (after other : Block) → Chosen cost before code chain p after → swap p d ≡ true → Placed before code chain (as_it_is d p) other → cost after < cost other
