@@ -20,4 +20,10 @@ as_it_is d p = record { places = p.places; swaps = kept_at d p.swaps }
 
 -- a swap pays: with that adder alone as it is, the block would cost more
 abbrev pub SwapsPay : Type 0
-SwapsPay = (t : Tables) (before : Block) (code : ℕ) (chain : Chain) (p : Placement) (d : ℕ) (after other : Block) → Chosen t before code chain p after → swap p d ≡ true → Placed before code chain (as_it_is d p) other → block_price t after < block_price t other
+SwapsPay =
+    (t : Tables) (before : Block) (code : ℕ) (chain : Chain)
+    (p : Placement) (d : ℕ) (after other : Block)
+    → Chosen t before code chain p after
+    → swap p d ≡ true
+    → Placed before code chain (as_it_is d p) other
+    → block_price t after < block_price t other
