@@ -19,4 +19,9 @@ as_it_is d p = record { places = p.places; swaps = kept_at d p.swaps }
 
 -- a swap pays: with that adder alone as it is, the block would cost more
 abbrev pub SwapsPay : Type 0
-SwapsPay = (cost : Block → ℕ) (before : Block) (code : ℕ) (chain : Chain) (p : Placement) (d : ℕ) (after other : Block) → Chosen cost before code chain p after → swap p d ≡ true → Placed before code chain (as_it_is d p) other → cost after < cost other
+SwapsPay =
+    (cost : Block → ℕ) (before : Block) (code : ℕ) (chain : Chain) (p : Placement) (d : ℕ) (after other : Block)
+    → Chosen cost before code chain p after
+    → swap p d ≡ true
+    → Placed before code chain (as_it_is d p) other
+    → cost after < cost other
