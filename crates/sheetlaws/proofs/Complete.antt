@@ -110,7 +110,7 @@ module _ (b : Block) (orders : Orders) (ordered : (p : Port) → InputsInOrder b
   all_ports = record {
     begun = record {
       text = port_lines orders (ports b.adders) ++ row_lines orders b.adders 0 (rows_of b);
-      begun = record { short = sheet_length orders b few; few = b.few; some_bits = b.some_bits; few_bits = b.few_bits; text_is = refl };
+      begun = record { short = sheet_length orders b few (λ p. (fine p).small); few = b.few; some_bits = b.some_bits; few_bits = b.few_bits; text_is = refl };
       lines = ap (λ ps. port_lines orders ps ++ row_lines orders b.adders 0 (rows_of b)) (sym (all_taken b.adders));
       fine = λ i h. fine (nth_port b.adders i);
     };

@@ -18,6 +18,7 @@ use Rattle.texts.specs.Steps as steps
 use Rattle.texts.specs.Pieces.{skip, if_next, selections_at}
 use Rattle.texts.specs.Listings.{eight_places}
 use Rattle.texts.proofs.Skips.{skip_again}
+use Rattle.texts.proofs.Takes.{code_key_is}
 use Rattle.texts.proofs.Again.{selections_again}
 use Rattle.reading.specs.Orders.{Orders}
 use Rattle.reading.specs.Data.{RowData}
@@ -117,7 +118,8 @@ module _ (orders : Orders) (a : ℕ) (few_adders : a ≤ 8) (few : FewEach order
   -- another code's key is not this one's
   keys_differ : (c d : ℕ) (rest : List ℕ) → c < d → d ≤ 99 → skip (code_key c) (code_key d ++ rest) ≡ None
   keys_differ c d rest lt most =
-      ⊎_elim {C = skip (code_key c) (code_key d ++ rest) ≡ None}
+      ap (λ k. skip k (code_key d ++ rest)) (code_key_is c (omega arith)) ∙ ap (λ k. skip (115 ∷ (48 + c / 10) ∷ (48 + c % 10) ∷ 61 ∷ []) (k ++ rest)) (code_key_is d most)
+      ∙ ⊎_elim {C = skip (115 ∷ (48 + c / 10) ∷ (48 + c % 10) ∷ 61 ∷ []) (115 ∷ (48 + d / 10) ∷ (48 + d % 10) ∷ 61 ∷ rest) ≡ None}
       (λ tens.
       let ones : c % 10 ≢ d % 10 = λ e. omega (arith, tens, e) in
       ap (λ b. cond b (skip ((48 + c % 10) ∷ 61 ∷ []) ((48 + d % 10) ∷ 61 ∷ rest)) None) (eq-eqb (48 + c / 10) (48 + d / 10) (ap (λ n. 48 + n) tens))

@@ -1,5 +1,5 @@
 -- The key of a code line, and what stands after it.
-use Rattle.std.proofs.Common.{◌≡◌, ℕ, ◌+◌, ◌/◌, ◌%◌, ◌≤◌, ◌⊎◌, inl, inr, List, [], ◌++◌, Some, None, Option, Ok, Err, Result, refl, ap, ◌∙◌, sym, subst, arith}
+use Rattle.std.proofs.Common.{◌≡◌, ℕ, ◌+◌, ◌/◌, ◌%◌, ◌≤◌, ◌⊎◌, inl, inr, List, [], ◌∷◌, ◌++◌, Some, None, Option, Ok, Err, Result, refl, ap, ◌∙◌, sym, subst, append_assoc, arith}
 use Rattle.adders.specs.declared.refusals.Refusal.{Refusal}
 use Rattle.adders.specs.declared.refusals.Refusal.TheVariants.{SheetForm, InputAbsent, RowBroken}
 use Rattle.adders.specs.Rules.{first_broken}
@@ -10,7 +10,7 @@ use Rattle.texts.specs.Text.{code_key, selections}
 use Rattle.texts.specs.Pieces.{skip, selections_at}
 use Rattle.texts.specs.Listings.{eight_places}
 use Rattle.texts.proofs.Skips.{skip_again}
-use Rattle.texts.proofs.Takes.{selections_take}
+use Rattle.texts.proofs.Takes.{code_key_is, selections_take}
 use Rattle.texts.proofs.Again.{selections_again}
 use Rattle.reading.specs.Orders.{Orders}
 use Rattle.reading.specs.Data.{RowData}
@@ -22,16 +22,21 @@ use Rattle.reading.proofs.Staged.{ok_not_err, there, row_read}
 use Rattle.sheetlaws.proofs.ToldNumbers.{err_is, bind_err, not_there}
 
 -- a text begins with the key of one code at most
-pub one_key : (c d : ℕ) (s t : List ℕ) → code_key c ++ s ≡ code_key d ++ t → (c ≡ d) × (s ≡ t)
-one_key c d s t e =
+pub one_key : (c d : ℕ) (s t : List ℕ) → c ≤ 99 → d ≤ 99 → code_key c ++ s ≡ code_key d ++ t → (c ≡ d) × (s ≡ t)
+one_key c d s t few less e =
+    let same : 115 ∷ (48 + c / 10) ∷ (48 + c % 10) ∷ 61 ∷ s ≡ 115 ∷ (48 + d / 10) ∷ (48 + d % 10) ∷ 61 ∷ t = ap (λ k. k ++ s) (sym (code_key_is c few)) ∙ e ∙ ap (λ k. k ++ t) (code_key_is d less) in
     let tens : 48 + c / 10 ≡ 48 + d / 10 = cc in
     let units : 48 + c % 10 ≡ 48 + d % 10 = cc in
     let rest : s ≡ t = cc in
     (omega arith, rest)
 
+-- the line of a code begins with its key
+pub line_apart : (a c : ℕ) (text : List ℕ) (es : List (Option Selection)) (out : ℕ) (rest : List ℕ) → CodeLine a c text es out rest → text ≡ code_key c ++ (selections es out ++ rest)
+line_apart a c text es out rest line = line.text_is ∙ append_assoc (code_key c) (selections es out) rest
+
 module _ (a c : ℕ) (text : List ℕ) where
   pub line_key : (es : List (Option Selection)) (out : ℕ) (rest : List ℕ) → CodeLine a c text es out rest → skip (code_key c) text ≡ Some (selections es out ++ rest)
-  line_key es out rest line = ap (skip (code_key c)) line.text_is ∙ skip_again (code_key c) (selections es out ++ rest)
+  line_key es out rest line = ap (skip (code_key c)) (line_apart a c text es out rest line) ∙ skip_again (code_key c) (selections es out ++ rest)
 
   pub line_read : (es : List (Option Selection)) (out : ℕ) (rest : List ℕ) → CodeLine a c text es out rest → selections_at a (selections es out ++ rest) ≡ Some ((es, out), rest)
   line_read es out rest line = ap (λ n. selections_at n (selections es out ++ rest)) (sym line.each) ∙ selections_again es out rest line.small line.small_output
@@ -39,12 +44,12 @@ module _ (a c : ℕ) (text : List ℕ) where
   pub line_from : (after : List ℕ) → text ≡ code_key c ++ after → (es : List (Option Selection)) (out : ℕ) (rest : List ℕ) → selections_at a after ≡ Some ((es, out), rest) → CodeLine a c text es out rest
   line_from after t es out rest read =
       let s = selections_take a after ((es, out), rest) read in
-      record { each = s.1; small = s.2; small_output = s.3; text_is = t ∙ ap (λ u. code_key c ++ u) s.0 }
+      record { each = s.1; small = s.2; small_output = s.3; text_is = t ∙ ap (λ u. code_key c ++ u) s.0 ∙ sym (append_assoc (code_key c) (selections es out) rest) }
 
   -- there is no line if what follows the key is none
-  pub no_line : (after : List ℕ) → text ≡ code_key c ++ after → selections_at a after ≡ None → (d : ℕ) (es : List (Option Selection)) (out : ℕ) (rest : List ℕ) → CodeLine a d text es out rest → ⊥
-  no_line after t none d es out rest line =
-      let k = one_key c d after (selections es out ++ rest) (sym t ∙ line.text_is) in
+  pub no_line : (after : List ℕ) → text ≡ code_key c ++ after → selections_at a after ≡ None → (d : ℕ) (es : List (Option Selection)) (out : ℕ) (rest : List ℕ) → c ≤ d → d ≤ 15 → CodeLine a d text es out rest → ⊥
+  no_line after t none d es out rest l h line =
+      let k = one_key c d after (selections es out ++ rest) (omega arith) (omega arith) (sym t ∙ line_apart a d text es out rest line) in
       some_none (sym (ap (λ n. selections_at n (selections es out ++ rest)) (sym line.each) ∙ selections_again es out rest line.small line.small_output) ∙ ap (selections_at a) (sym k.1) ∙ none)
 
 -- The row of a code line.
@@ -74,7 +79,7 @@ module _ (orders : Orders) (a c n : ℕ) (text after : List ℕ) where
       selects s line (inr goes) = absurd (ok_not_err (goes.0, s.1) e goes.2)
 
       by : (or_refused (SheetForm n) (selections_at a after) ≡ Err e) ⊎ ((s : (List (Option Selection) × ℕ) × List ℕ) × (or_refused (SheetForm n) (selections_at a after) ≡ Ok s) × (rest_of s ≡ Err e)) → CodeFault orders a c n text e
-      by (inl lacks) = let q = not_there (SheetForm n) e (selections_at a after) lacks in subst (CodeFault orders a c n text) q.1 (form (λ none. let z : code_key c ++ after ≡ [] = sym t ∙ none in cc) (λ d es out rest l k line. no_line a c text after t q.0 d es out rest line))
+      by (inl lacks) = let q = not_there (SheetForm n) e (selections_at a after) lacks in subst (CodeFault orders a c n text) q.1 (form (λ none. let z : code_key c ++ after ≡ [] = sym t ∙ none in cc) (λ d es out rest l k line. no_line a c text after t q.0 d es out rest l k line))
       by (inr s) = selects s.0 (line_from a c text after t s.0.0.0 s.0.0.1 s.0.1 (there (SheetForm n) (selections_at a after) s.0 s.1)) (bind_err _ _ e s.2)
 
   pub row_fine : (r : RowData) (rest : List ℕ) → text ≡ code_key c ++ after → read_row orders a n after ≡ Ok (r, rest) → CodeFine orders a c text r rest

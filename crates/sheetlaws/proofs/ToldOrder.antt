@@ -76,9 +76,3 @@ find_port q (p ∷ ps) = by (same_port p q) refl (find_port q ps)
 pub fresh_from : (q : Port) (ps : List Port) → ((k : ℕ) → k < length ps → get_or ps k Output ≢ q) → Fresh q ps
 fresh_from q [] f = tt
 fresh_from q (p ∷ ps) f = (f 0 (omega arith), fresh_from q ps (λ k h. f (suc k) (omega arith)))
-
--- the number of a port among these
-pub small_at : (ps : List Port) (k : ℕ) → Proper ps → SmallPort (get_or ps k Output)
-small_at [] k h = tt
-small_at (p ∷ ps) zero h = h.0
-small_at (p ∷ ps) (suc k) h = small_at ps k h.1.1

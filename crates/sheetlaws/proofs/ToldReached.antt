@@ -1,5 +1,5 @@
 -- The code lines: a cause that is there is told.
-use Rattle.std.proofs.Common.{◌≡◌, ◌≢◌, ℕ, zero, suc, ◌+◌, ◌-◌, ◌≤◌, List, [], ◌∷◌, ◌++◌, length, Some, None, Option, Ok, Err, refl, ap, ◌∙◌, sym, arith}
+use Rattle.std.proofs.Common.{◌≡◌, ◌≢◌, ℕ, zero, suc, ◌+◌, ◌-◌, ◌<◌, ◌≤◌, List, [], ◌∷◌, ◌++◌, length, Some, None, Option, Ok, Err, refl, ap, ◌∙◌, sym, arith}
 use Rattle.std.proofs.lemmas.Bool.{ne_eqb}
 use Rattle.adders.specs.declared.refusals.Refusal.{Refusal}
 use Rattle.adders.specs.declared.refusals.Refusal.TheVariants.{SheetForm}
@@ -16,12 +16,12 @@ use Rattle.sheetlaws.proofs.ToldKeys.{one_key, line_key, line_from, row_absent, 
 use Rattle.sheetlaws.proofs.ToldCodes.{rows_after, code_idle, code_live}
 
 -- a text that begins with the key of one code has no other's
-pub other_key : (c d : ℕ) (text after : List ℕ) → skip (code_key d) text ≡ Some after → c ≢ d → skip (code_key c) text ≡ None
-other_key c d text after there differ = by (skip (code_key c) text) refl
+pub other_key : (c d : ℕ) (text after : List ℕ) → skip (code_key d) text ≡ Some after → c < d → d ≤ 15 → skip (code_key c) text ≡ None
+other_key c d text after there l h = by (skip (code_key c) text) refl
   where
     by : (o : Option (List ℕ)) → skip (code_key c) text ≡ o → o ≡ None
     by None e = refl
-    by (Some rest) e = absurd (differ (one_key c d rest after (sym (skip_takes (code_key c) text rest e) ∙ skip_takes (code_key d) text after there)).0)
+    by (Some rest) e = let same = (one_key c d rest after (omega arith) (omega arith) (sym (skip_takes (code_key c) text rest e) ∙ skip_takes (code_key d) text after there)).0 in absurd (omega arith)
 
 module _ (orders : Orders) (a : ℕ) where
   -- what stops the line of a later code stops the reading
@@ -32,7 +32,7 @@ module _ (orders : Orders) (a : ℕ) where
       ap (λ m. read_codes orders a m c n text) count ∙ ap (λ m. read_codes orders a (suc i) m n text) code ∙ code_live orders a i d n text after key ∙ h
   reach (suc j) zero c d i n text after e there sixteen left key h = absurd (omega arith)
   reach (suc j) (suc k) c d i n text after e there sixteen left key h =
-      code_idle orders a k c n text (other_key c d text after key (λ same. omega arith)) ∙ ap (then_row None) (reach j k (suc c) d i n text after e (omega arith) (omega arith) left key h)
+      code_idle orders a k c n text (other_key c d text after key (omega arith) (omega arith)) ∙ ap (then_row None) (reach j k (suc c) d i n text after e (omega arith) (omega arith) left key h)
 
   -- the same from any code before it
   stopped : (k c d n : ℕ) (text after : List ℕ) (e : Refusal) → c ≤ d → d ≤ 15 → k + c ≡ 16 → skip (code_key d) text ≡ Some after → rows_after orders a (15 - d) d n after ≡ Err e → read_codes orders a k c n text ≡ Err e

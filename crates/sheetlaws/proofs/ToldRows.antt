@@ -12,7 +12,7 @@ use Rattle.reading.specs.Reader.{read_row, then_row, read_codes}
 use Rattle.sheetlaws.specs.Refusing.{Rows, end, idle, live}
 use Rattle.reading.proofs.Staged.{bind_ok, passed, ok_is}
 use Rattle.texts.proofs.Skips.{skip_takes}
-use Rattle.sheetlaws.proofs.ToldKeys.{one_key, line_key, row_fine, row_taken}
+use Rattle.sheetlaws.proofs.ToldKeys.{one_key, line_apart, line_key, row_fine, row_taken}
 use Rattle.sheetlaws.proofs.ToldCodes.{Rest, code_idle, code_live}
 
 then_ok : (r : Option RowData) (rs : Rest) (rows : List (Option RowData)) → then_row r rs ≡ Ok rows → (others : List (Option RowData)) × (rs ≡ Ok others) × (r ∷ others ≡ rows)
@@ -48,7 +48,7 @@ module _ (orders : Orders) (a : ℕ) where
   no_rows c after d text rows (end nothing) t l = let z : code_key c ++ after ≡ [] = sym t ∙ nothing in cc
   no_rows c after d text rows (idle d2 text2 rows2 h none more) t l = no_rows c after (d2 + 1) text rows2 more t (omega arith)
   no_rows c after d text rows (live d2 text2 rest r rows2 h fine more) t l =
-      let same = (one_key c d after (selections fine.entries fine.output ++ rest) (sym t ∙ fine.line.text_is)).0 in omega arith
+      let same = (one_key c d after (selections fine.entries fine.output ++ rest) (omega arith) (omega arith) (sym t ∙ line_apart a d text fine.entries fine.output rest fine.line)).0 in omega arith
 
   pub rows_read : (c : ℕ) (text : List ℕ) (rows : List (Option RowData)) → Rows orders a c text rows → (k n : ℕ) → k + c ≡ 16 → read_codes orders a k c n text ≡ Ok rows
   unfolding read_codes

@@ -1,16 +1,13 @@
 -- The order in which a port's inputs are written.
-use Rattle.std.proofs.Common.{ℕ, ◌≤◌, List, [], ◌∷◌, refl}
+use Rattle.std.proofs.Common.{List, [], ◌∷◌, refl}
 use Rattle.adders.specs.declared.wiring.Operand.{Operand}
 use Rattle.blocks.specs.declared.model.Block.{Block}
 use Rattle.ports.specs.declared.port.Port.{Port}
-use Rattle.ports.specs.Ports.{ports, nth_port}
 use Rattle.ports.specs.Inputs.{inputs, Ascends}
 use Rattle.ports.proofs.Ascending.{before_irrefl, inputs_law}
-use Rattle.texts.specs.Laws.{SmallPort}
 use Rattle.reading.specs.Repeats.{Once}
 use Rattle.sheetlaws.specs.Sheets.{InputsInOrder, IsSheet}
 use Rattle.sheets.specs.Calls.{written_sheet}
-use Rattle.sheetlaws.proofs.ToldOrder.{proper, small_at}
 
 ascending_once : (os : List Operand) → Ascends os → Once os
 ascending_once [] a = tt
@@ -21,6 +18,3 @@ canonical b p = let l = inputs_law.these b p in record { once = ascending_once (
 
 pub is_sheet : (b : Block) → IsSheet (written_sheet b) b
 is_sheet b = record { orders = inputs b; ordered = canonical b; text = refl }
-
-pub small_nth : (a k : ℕ) → a ≤ 8 → SmallPort (nth_port a k)
-small_nth a k h = small_at (ports a) k (proper a h)

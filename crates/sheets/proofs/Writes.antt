@@ -3,7 +3,7 @@ use Rattle.std.proofs.Common.{◌≡◌, ℕ, zero, suc, ◌+◌, ◌*◌, ◌<�
 use Rattle.std.specs.Prelude.{codes, option_map, IfOk}
 use Rattle.std.proofs.lemmas.Bool.{le-leb}
 use Rattle.std.proofs.Math.Seq.{take-append_seam}
-use Rattle.std.proofs.lemmas.List.{drop_more, drop_all}
+use Rattle.std.proofs.lemmas.List.{drop_more, drop_all, take_all}
 use Rattle.adders.specs.declared.refusals.Refusal.{Refusal}
 use Rattle.adders.specs.declared.wiring.Operand.{Operand}
 use Rattle.adders.specs.declared.refusals.Refusal.TheVariants.{CodeAboveFifteen}
@@ -19,21 +19,19 @@ use Rattle.ports.specs.declared.port.Port.TheVariants.{Output}
 use Rattle.ports.specs.Ports.{ports, nth_port}
 use Rattle.ports.specs.Inputs.{inputs}
 use Rattle.texts.specs.declared.selection.Selection.{Selection}
-use Rattle.texts.specs.Text.{number_line, port_line, code_line, AllSmall, AllSmallEntries}
-use Rattle.texts.specs.Laws.{SmallPort}
+use Rattle.texts.specs.Text.{number_line, port_line, code_line, AllSmall}
 use Rattle.writing.specs.Writes.{Wrote, Written}
-use Rattle.writing.proofs.Joins.{joined, nothing}
+use Rattle.writing.proofs.Joins.{joined, Finishes, finishes_next, finished}
 use Rattle.reading.specs.Orders.{Orders}
 use Rattle.reading.specs.Data.{data_of, rows_of}
 use Rattle.sheetlaws.specs.Sheets.{place, selection_of, selections_of, port_lines, row_line, row_lines}
 use Rattle.sheets.specs.Calls.{written_sheet, ReadsBack}
 use Rattle.reading.proofs.PortOrder.{next_port, no_port}
-use Rattle.sheetlaws.proofs.Placed.{place_few}
 use Rattle.sheetlaws.proofs.Counted.{all_small, few_inputs}
 use Rattle.reading.proofs.RowByRow.{rows_at, rows_length}
-use Rattle.sheetlaws.proofs.RowsAgain.{FewEach, small_entries}
+use Rattle.sheetlaws.proofs.RowsAgain.{FewEach}
 use Rattle.sheetlaws.proofs.Sizes.{sheet_length}
-use Rattle.sheets.proofs.Canonical.{canonical, is_sheet, small_nth}
+use Rattle.sheets.proofs.Canonical.{canonical, is_sheet}
 use Rattle.sheets.proofs.ReadOver.{reads_back}
 
 pub few_each : (b : Block) → FewEach (inputs b)
@@ -41,16 +39,6 @@ few_each b p = few_inputs b p (inputs b p) (canonical b p)
 
 pub small_inputs : (b : Block) (p : Port) → AllSmall (inputs b p)
 small_inputs b p = all_small b p (inputs b p) (canonical b p)
-
--- what is still to be written finishes the whole
-abbrev pub Finishes : List ℕ → List ℕ → List ℕ → List ℕ → Type 0
-Finishes old whole now rest = (end : List ℕ) → Wrote now rest end → Wrote old whole end
-
-pub finishes_next : (old whole now line rest next : List ℕ) → Finishes old whole now (line ++ rest) → Wrote now line next → Finishes old whole next rest
-finishes_next old whole now line rest next f w end g = f end (joined now line next rest end w g)
-
-pub finished : (old whole now : List ℕ) → Finishes old whole now [] → Wrote old whole now
-finished old whole now f = f now (nothing now)
 
 module _ (b : Block) (k : ℕ) (old now : List ℕ) (f : Finishes old (port_lines (inputs b) (ports b.adders)) now (port_lines (inputs b) (drop k (ports b.adders)))) where
   pub port_written : k < 2 * b.adders + 1 → (next : List ℕ) → Wrote now (port_line (nth_port b.adders k) (inputs b (nth_port b.adders k))) next
@@ -90,9 +78,6 @@ module _ (b : Block) (code : ℕ) (old now : List ℕ) (f : CodesFinish b old no
       entries_are : es ≡ selections_of (inputs b) 1 (take b.adders r.slots)
       entries_are = is ∙ take_selections (inputs b) 1 b.adders r.slots
 
-      pub entries_small : AllSmallEntries es
-      entries_small = subst AllSmallEntries (sym entries_are) (small_entries (inputs b) 1 (take b.adders r.slots) (few_each b))
-
       pub live_written : (next : List ℕ) → Wrote now (code_line code es (place r.output (inputs b Output))) next → CodesFinish b old next (code + 1)
       live_written next w =
           finishes_next old (row_lines (inputs b) b.adders 0 (rows_of b)) now (code_line code (selections_of (inputs b) 1 (take b.adders r.slots)) (place r.output (inputs b Output))) (row_lines (inputs b) b.adders (code + 1) (drop (code + 1) (rows_of b))) next
@@ -102,17 +87,12 @@ module _ (b : Block) (code : ℕ) (old now : List ℕ) (f : CodesFinish b old no
   pub codes_written : 16 ≤ code → Wrote old (row_lines (inputs b) b.adders 0 (rows_of b)) now
   codes_written all = finished old (row_lines (inputs b) b.adders 0 (rows_of b)) now (subst (λ rs. Finishes old (row_lines (inputs b) b.adders 0 (rows_of b)) now (row_lines (inputs b) b.adders code rs)) (drop_all code (rows_of b) (omega (arith, rows_length b))) f)
 
-place_small : (b : Block) (p : Port) (o : Operand) → place o (inputs b p) ≤ 99
-place_small b p o = omega (arith, place_few (inputs b p) o, few_each b p)
-
 -- the line of a live code
 pub line_written : (b : Block) (code : ℕ) (old now next : List ℕ) → CodesFinish b old now code → code < 16 → (r : Row) → row_of b code ≡ Some r → (a out o : ℕ) (es : List (Option Selection)) → a ≡ b.adders → es ≡ selections_of (inputs b) 1 r.slots
-    → o ≡ place r.output (inputs b Output) → out ≡ o → (code ≤ 99 → AllSmallEntries (take a es) → out ≤ 99 → Wrote now (code_line code (take a es) out) next) → CodesFinish b old next (code + 1)
+    → o ≡ place r.output (inputs b Output) → out ≡ o → Wrote now (code_line code (take a es) out) next → CodesFinish b old next (code + 1)
 line_written b code old now next f lt r here a out o es ea ee eo same w =
     let is : take a es ≡ take b.adders (selections_of (inputs b) 1 r.slots) = ap (λ n. take n es) ea ∙ ap (take b.adders) ee in
-    let small = entries_small b code old now f lt r here (take a es) is in
-    let number = same ∙ eo in
-    live_written b code old now f lt r here (take a es) is next (subst (λ n. Wrote now (code_line code (take a es) n) next) number (w (omega arith) small (omega (arith, number, place_small b Output r.output))))
+    live_written b code old now f lt r here (take a es) is next (subst (λ n. Wrote now (code_line code (take a es) n) next) (same ∙ eo) w)
 
 -- a code that is turned down is idle
 pub idle_code : (b : Block) (code : ℕ) (e : Refusal) → code < 16 → first_broken (live_rules code (row_of b code)) ≡ Some e → row_of b code ≡ None
@@ -126,22 +106,23 @@ idle_code b code e lt h = by (row_of b code) refl
     by (Some r) here = absurd (some_none (sym h ∙ ap (λ o. first_broken (live_rules code o)) here ∙ live r))
 
 -- all of it
-pub all_written : (b : Block) (s t u v w : List ℕ) (a n : ℕ) → s ≡ [] → a ≡ b.adders → n ≡ b.width → (a ≤ 99 → Wrote s (number_line (codes "adders=") a) t) → (n ≤ 99 → Wrote t (number_line (codes "width=") n) u)
+pub all_written : (b : Block) (s t u v w : List ℕ) (a n : ℕ) → s ≡ [] → a ≡ b.adders → n ≡ b.width → Wrote s (number_line (codes "adders=") a) t → Wrote t (number_line (codes "width=") n) u
     → Wrote u (port_lines (inputs b) (ports b.adders)) v → Wrote v (row_lines (inputs b) b.adders 0 (rows_of b)) w → w ≡ written_sheet b
 all_written b s t u v w a n es ea en f g h k =
     let first = number_line (codes "adders=") b.adders in
     let second = number_line (codes "width=") b.width in
     let lines = port_lines (inputs b) (ports b.adders) in
     let rows = row_lines (inputs b) b.adders 0 (rows_of b) in
-    let wrote_first : Wrote [] first t = subst (λ m. Wrote [] (number_line (codes "adders=") m) t) ea (subst (λ l. Wrote l (number_line (codes "adders=") a) t) es (f (omega (arith, ea, b.few)))) in
-    let wrote_second : Wrote t second u = subst (λ m. Wrote t (number_line (codes "width=") m) u) en (g (omega (arith, en, b.few_bits))) in
-    joined [] first t (second ++ (lines ++ rows)) w wrote_first (joined t second u (lines ++ rows) w wrote_second (joined u lines v rows w h k)) (omega (arith, sheet_length (inputs b) b (few_each b)))
+    let wrote_first : Wrote [] first t = subst (λ m. Wrote [] (number_line (codes "adders=") m) t) ea (subst (λ l. Wrote l (number_line (codes "adders=") a) t) es f) in
+    let wrote_second : Wrote t second u = subst (λ m. Wrote t (number_line (codes "width=") m) u) en g in
+    joined [] first t (second ++ (lines ++ rows)) w wrote_first (joined t second u (lines ++ rows) w wrote_second (joined u lines v rows w h k))
+    ∙ take_all 4096 (written_sheet b) (sheet_length (inputs b) b (few_each b) (small_inputs b))
 
 -- one port's line
-pub port_wrote : (b : Block) (k : ℕ) (now next : List ℕ) (p : Port) (os : List Operand) → p ≡ nth_port b.adders k → os ≡ inputs b p → (SmallPort p → AllSmall os → Wrote now (port_line p os) next) → Wrote now (port_line (nth_port b.adders k) (inputs b (nth_port b.adders k))) next
+pub port_wrote : (b : Block) (k : ℕ) (now next : List ℕ) (p : Port) (os : List Operand) → p ≡ nth_port b.adders k → os ≡ inputs b p → Wrote now (port_line p os) next → Wrote now (port_line (nth_port b.adders k) (inputs b (nth_port b.adders k))) next
 port_wrote b k now next p os e f w =
     subst (λ q. Wrote now (port_line q (inputs b q)) next) e
-    (subst (λ us. Wrote now (port_line p us) next) f (w (subst SmallPort (sym e) (small_nth b.adders k b.few)) (subst AllSmall (sym f) (small_inputs b p))))
+    (subst (λ us. Wrote now (port_line p us) next) f w)
 
 -- what was handed out is read back
 pub written_back : (b : Block) (text out : List ℕ) (r : Result ℕ Refusal) (after : List ℕ) → text ≡ written_sheet b → Written text out r after → IfOk r (λ n. ReadsBack (take n after) b)

@@ -63,6 +63,7 @@ fn selections(lists: &PortInputs, row: &Row) -> [Option<Selection>; 8]
 fn write_ports(text: &mut SheetText, lists: &PortInputs)
     ensures { Wrote text.old (port_lines (inputs lists.now.block.now) (ports lists.now.block.now.adders)) text.new }
 {
+    prove!(text.len() <= 4096);
     let adders = lists.block.adders();
     for place in 0..2 * adders + 1 {
         let port = Port::nth(place, adders);
@@ -74,6 +75,7 @@ fn write_ports(text: &mut SheetText, lists: &PortInputs)
 fn write_codes(text: &mut SheetText, lists: &PortInputs)
     ensures { Wrote text.old (row_lines (inputs lists.now.block.now) lists.now.block.now.adders 0 (rows_of lists.now.block.now)) text.new }
 {
+    prove!(text.len() <= 4096);
     let adders = lists.block.adders();
     for code in 0..16 {
         if let Ok(row) = lists.block.row(code) {

@@ -46,7 +46,7 @@ number_again n rest small ends = ⊎_elim {C = number_at (number n ++ rest) ≡ 
     two h =
         let whole : 10 * (n / 10) + n % 10 ≡ n = omega arith in
         let some : eqb (n / 10) 0 ≡ false = ne_eqb (n / 10) 0 (λ e. omega arith) in
-        ap (λ l. number_at (l ++ rest)) (two_digits n h) ∙ ap (λ r. r >>= goes_on) (digit_again (n / 10) ((48 + n % 10) ∷ rest) (omega arith))
+        ap (λ l. number_at (l ++ rest)) (two_digits n h small) ∙ ap (λ r. r >>= goes_on) (digit_again (n / 10) ((48 + n % 10) ∷ rest) (omega arith))
         ∙ ap (λ b. cond b (Some (n / 10, (48 + n % 10) ∷ rest)) (second_digit (n / 10, (48 + n % 10) ∷ rest) (digit_at ((48 + n % 10) ∷ rest)))) some
         ∙ ap (second_digit (n / 10, (48 + n % 10) ∷ rest)) (digit_again (n % 10) rest (omega arith)) ∙ ap (λ k. Some (k, rest)) whole
 
@@ -57,8 +57,8 @@ operand_again o rest small ends =
     ∙ rw (number_again o.source (46 ∷ (number o.shift ++ rest)) small.0 refl, number_again o.shift rest small.1 ends) refl
 
 -- what begins with a digit does not begin with a lower byte
-pub no_digit : (k n : ℕ) (ks rest : List ℕ) → k < 48 → skip (k ∷ ks) (number n ++ rest) ≡ None
-no_digit k n ks rest h = ⊎_elim {C = skip (k ∷ ks) (number n ++ rest) ≡ None} (λ l. ap (λ t. skip (k ∷ ks) (t ++ rest)) (one_digit n l) ∙ other (48 + n) rest (omega arith)) (λ g. ap (λ t. skip (k ∷ ks) (t ++ rest)) (two_digits n g) ∙ other (48 + n / 10) ((48 + n % 10) ∷ rest) (omega arith)) (cases_lt n 10)
+pub no_digit : (k n : ℕ) (ks rest : List ℕ) → k < 48 → n ≤ 99 → skip (k ∷ ks) (number n ++ rest) ≡ None
+no_digit k n ks rest h small = ⊎_elim {C = skip (k ∷ ks) (number n ++ rest) ≡ None} (λ l. ap (λ t. skip (k ∷ ks) (t ++ rest)) (one_digit n l) ∙ other (48 + n) rest (omega arith)) (λ g. ap (λ t. skip (k ∷ ks) (t ++ rest)) (two_digits n g small) ∙ other (48 + n / 10) ((48 + n % 10) ∷ rest) (omega arith)) (cases_lt n 10)
   where
     other : (b : ℕ) (bs : List ℕ) → 48 ≤ b → skip (k ∷ ks) (b ∷ bs) ≡ None
     other b bs g = ap (λ t. cond t (skip ks bs) None) (ne_eqb k b (λ e. omega arith))
@@ -92,7 +92,7 @@ input_list_again (o ∷ os) rest small =
     ap operand_at (sym (append_assoc (number o.source) (46 ∷ number o.shift) after)) ∙ operand_again o after small.0 (more_ends os (10 ∷ rest) refl) in
     let enough : length os < suc (length after) = omega (arith, more_long os, length-append (more_inputs os) (10 ∷ rest)) in
     ap input_list_at regrouped
-    ∙ rw (no_digit 10 o.source [] (46 ∷ (number o.shift ++ after)) (omega arith), first, more_again (suc (length after)) os (10 ∷ rest) small.1 refl refl enough) refl
+    ∙ rw (no_digit 10 o.source [] (46 ∷ (number o.shift ++ after)) (omega arith) small.0.0, first, more_again (suc (length after)) os (10 ∷ rest) small.1 refl refl enough) refl
 
 side_again : (j : ℕ) (key rest : List ℕ) → j ≤ 99 → Ends (key ++ rest) → side_at j key ((number j ++ key) ++ rest) ≡ Some rest
 unfolding side_at
@@ -135,7 +135,7 @@ selection_again s rest small =
 entry_again : (x : Option Selection) (rest : List ℕ) → SmallEntry x → entry_at (entry x ++ rest) ≡ Some (x, rest)
 entry_again None rest small = refl
 entry_again (Some s) rest small =
-    let none : skip (codes "- ") (entry (Some s) ++ rest) ≡ None = ap (skip (codes "- ")) (append_assoc (number s.left) (mark s.sign ∷ (number s.right ++ 32 ∷ [])) rest) ∙ no_digit 45 s.left (32 ∷ []) (mark s.sign ∷ ((number s.right ++ 32 ∷ []) ++ rest)) (omega arith) in
+    let none : skip (codes "- ") (entry (Some s) ++ rest) ≡ None = ap (skip (codes "- ")) (append_assoc (number s.left) (mark s.sign ∷ (number s.right ++ 32 ∷ [])) rest) ∙ no_digit 45 s.left (32 ∷ []) (mark s.sign ∷ ((number s.right ++ 32 ∷ []) ++ rest)) (omega arith) small.0 in
     ap (λ r. if_next r (some_read (selection_at (entry (Some s) ++ rest))) (λ t. Some (None, t))) none ∙ ap some_read (selection_again s rest small)
 
 pub entries_again : (es : List (Option Selection)) (rest : List ℕ) → AllSmallEntries es → entries_at (length es) (entries es ++ rest) ≡ Some (es, rest)

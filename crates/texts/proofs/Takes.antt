@@ -1,8 +1,9 @@
 -- What a reader takes from the front is the text of what it answers.
-use Rattle.std.proofs.Common.{◌≡◌, ℕ, zero, suc, ◌+◌, ◌*◌, ◌/◌, ◌%◌, ◌<◌, ◌≤◌, Bool, true, false, cond, eqb, List, [], ◌∷◌, ◌++◌, length, Some, None, Option, sym, refl, ap, ◌∙◌, subst, append_assoc, arith}
+use Rattle.std.proofs.Common.{◌≡◌, ℕ, zero, suc, ◌+◌, ◌*◌, ◌/◌, ◌%◌, ◌<◌, ◌≤◌, Bool, true, false, cond, eqb, List, [], ◌∷◌, ◌++◌, length, Some, None, Option, sym, refl, ap, ◌∙◌, subst, append_assoc, ⊎_elim, arith}
 use Rattle.std.specs.Prelude.{codes}
+use Rattle.std.proofs.lemmas.Fmt.{decimal_digit, decimal_step}
 use Rattle.std.proofs.lemmas.List.{length-append}
-use Rattle.std.proofs.lemmas.Bool.{lt-ltb, le-ltb, eqb-true, eqb-false}
+use Rattle.std.proofs.lemmas.Bool.{cases_lt, lt-ltb, le-ltb, eqb-true, eqb-false}
 use Rattle.forms.specs.Digits.{digit}
 use Rattle.forms.proofs.Digits.{digit_some}
 use Rattle.adders.specs.declared.wiring.Operand.{Operand}
@@ -12,7 +13,7 @@ use Rattle.adders.specs.declared.wiring.Sign.TheVariants.{Plus, Minus}
 use Rattle.ports.specs.declared.port.Port.{Port}
 use Rattle.ports.specs.declared.port.Port.TheVariants.{Left, Right, Output}
 use Rattle.texts.specs.declared.selection.Selection.{Selection}
-use Rattle.texts.specs.Text.{number, number_line, operand, more_inputs, input_list, port_key, port_line, mark, entry, entries, selections, Small, AllSmall, SmallEntry, AllSmallEntries}
+use Rattle.texts.specs.Text.{number, number_line, operand, more_inputs, input_list, port_key, port_line, mark, entry, entries, code_key, selections, Small, AllSmall, SmallEntry, AllSmallEntries}
 use Rattle.texts.specs.Steps.{◌>>=◌, Read}
 use Rattle.texts.specs.Pieces.{skip, if_next, some_read, digit_at, second_digit, number_at, operand_at, more_within, more_at, input_list_at, side_at, port_key_at, port_line_at, number_line_at, sign_at, selection_at, entry_at, entries_at, selections_at}
 use Rattle.texts.proofs.Skips.{skip_takes}
@@ -41,10 +42,26 @@ digit_takes (b ∷ bs) x e =
 -- one digit or two
 module _ (n : ℕ) where
   pub one_digit : n < 10 → number n ≡ (48 + n) ∷ []
-  one_digit h = ap (λ b. cond b ((48 + n) ∷ []) ((48 + n / 10) ∷ (48 + n % 10) ∷ [])) (lt-ltb n 10 h)
+  one_digit h = decimal_digit n h
 
-  pub two_digits : 10 ≤ n → number n ≡ (48 + n / 10) ∷ (48 + n % 10) ∷ []
-  two_digits h = ap (λ b. cond b ((48 + n) ∷ []) ((48 + n / 10) ∷ (48 + n % 10) ∷ [])) (le-ltb n 10 h)
+  pub two_digits : 10 ≤ n → n ≤ 99 → number n ≡ (48 + n / 10) ∷ (48 + n % 10) ∷ []
+  two_digits low high = decimal_step n low (omega arith) ∙ ap (λ l. l ++ (48 + n % 10) ∷ []) (decimal_digit (n / 10) (omega arith))
+
+-- the key of a code of two digits
+pub code_key_is : (c : ℕ) → c ≤ 99 → code_key c ≡ 115 ∷ (48 + c / 10) ∷ (48 + c % 10) ∷ 61 ∷ []
+code_key_is c few = ⊎_elim {C = code_key c ≡ 115 ∷ (48 + c / 10) ∷ (48 + c % 10) ∷ 61 ∷ []} one two (cases_lt c 10)
+  where
+    key : List ℕ → List ℕ
+    key digits = 115 ∷ (digits ++ 61 ∷ [])
+
+    one : c < 10 → code_key c ≡ 115 ∷ (48 + c / 10) ∷ (48 + c % 10) ∷ 61 ∷ []
+    one h =
+        let tens : 0 ≡ c / 10 = omega arith in
+        let units : c ≡ c % 10 = omega arith in
+        ap (λ b. key (cond b (48 ∷ number c) (number c))) (lt-ltb c 10 h) ∙ ap (λ l. key (48 ∷ l)) (one_digit c h) ∙ (λ i. 115 ∷ (48 + tens i) ∷ (48 + units i) ∷ 61 ∷ [])
+
+    two : 10 ≤ c → code_key c ≡ 115 ∷ (48 + c / 10) ∷ (48 + c % 10) ∷ 61 ∷ []
+    two h = ap (λ b. key (cond b (48 ∷ number c) (number c))) (le-ltb c 10 h) ∙ ap key (two_digits c h few)
 
 pub number_takes : (text : List ℕ) (x : ℕ × List ℕ) → number_at text ≡ Some x → (text ≡ number x.0 ++ x.1) × (x.0 ≤ 99)
 unfolding number_at
@@ -64,8 +81,8 @@ number_takes text x e =
         let tens : n / 10 ≡ first.0 = omega (arith, d.1) in
         let units : n % 10 ≡ ones.0 = omega (arith, d.1) in
         let low : 10 ≤ n = omega arith in
-        let text_is : text ≡ number n ++ ones.1 = t ∙ ap (λ l. (48 + first.0) ∷ l) d.0 ∙ ap (λ l. l ++ ones.1) (ap (λ k. (48 + k) ∷ (48 + ones.0) ∷ []) (sym tens) ∙ ap (λ k. (48 + n / 10) ∷ (48 + k) ∷ []) (sym units) ∙ sym (two_digits n low)) in
         let high : n ≤ 99 = omega (arith, d.1) in
+        let text_is : text ≡ number n ++ ones.1 = t ∙ ap (λ l. (48 + first.0) ∷ l) d.0 ∙ ap (λ l. l ++ ones.1) (ap (λ k. (48 + k) ∷ (48 + ones.0) ∷ []) (sym tens) ∙ ap (λ k. (48 + n / 10) ∷ (48 + k) ∷ []) (sym units) ∙ sym (two_digits n low high)) in
         subst (λ y. (text ≡ number y.0 ++ y.1) × (y.0 ≤ 99)) (some_is (n, ones.1) x e) (text_is, high)
 
     by : (first : ℕ × List ℕ) → text ≡ (48 + first.0) ∷ first.1 → first.0 ≤ 9 → (b : Bool) → eqb first.0 0 ≡ b → cond b (Some first) (second_digit first (digit_at first.1)) ≡ Some x → (text ≡ number x.0 ++ x.1) × (x.0 ≤ 99)

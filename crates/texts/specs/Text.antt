@@ -1,6 +1,6 @@
 -- The text of a wiring sheet, piece by piece, as bytes.
---   46 is a dot, 32 a space, 10 a line feed, 43 plus, 45 minus, 61 an equals sign, 115 an s
-use Rattle.std.specs.Prelude.{ℕ, ◌+◌, ◌/◌, ◌%◌, ◌≤◌, List, [], ◌∷◌, ◌++◌, Some, None, Option, codes, nat_lt, if◌then◌else◌}
+--   48 is the digit 0, 46 a dot, 32 a space, 10 a line feed, 43 plus, 45 minus, 61 an equals sign, 115 an s
+use Rattle.std.specs.Prelude.{ℕ, ◌≤◌, List, [], ◌∷◌, ◌++◌, Some, None, Option, codes, decimal, nat_lt, if◌then◌else◌}
 use Rattle.adders.specs.declared.wiring.Operand.{Operand}
 use Rattle.adders.specs.declared.wiring.Sign.{Sign}
 use Rattle.adders.specs.declared.wiring.Sign.TheVariants.{Plus, Minus}
@@ -8,9 +8,9 @@ use Rattle.ports.specs.declared.port.Port.{Port}
 use Rattle.ports.specs.declared.port.Port.TheVariants.{Left, Right, Output}
 use Rattle.texts.specs.declared.selection.Selection.{Selection}
 
--- a number up to 99, as it is printed
+-- a number, as it is printed
 abbrev pub number : ℕ → List ℕ
-number n = if nat_lt n 10 then (48 + n) ∷ [] else (48 + n / 10) ∷ (48 + n % 10) ∷ []
+number n = decimal n
 
 -- a key, a number and a line feed
 abbrev pub number_line : List ℕ → ℕ → List ℕ
@@ -52,9 +52,13 @@ abbrev pub entries : List (Option Selection) → List ℕ
 entries [] = []
 entries (x ∷ xs) = entry x ++ entries xs
 
--- s, the code's two digits, =
+-- a code is two digits, with a leading zero below 10
+abbrev pub code_digits : ℕ → List ℕ
+code_digits c = if nat_lt c 10 then 48 ∷ number c else number c
+
+-- s, the code's digits, =
 abbrev pub code_key : ℕ → List ℕ
-code_key c = 115 ∷ (48 + c / 10) ∷ (48 + c % 10) ∷ 61 ∷ []
+code_key c = 115 ∷ (code_digits c ++ 61 ∷ [])
 
 -- what follows it: an entry for each adder, and the number of the output's input
 abbrev pub selections : List (Option Selection) → ℕ → List ℕ

@@ -23,10 +23,19 @@ pub const PLUS: &[u8] = b"+";
 
 pub const MINUS: &[u8] = b"-";
 
+// What stands before the number of a code.
+pub const CODE: &[u8] = b"s";
+
+// The same before a number of one digit.
+pub const CODE_BELOW_TEN: &[u8] = b"s0";
+
+pub const EQUALS: &[u8] = b"=";
+
 // What stands for an adder that a row does not use.
 pub const UNUSED: &[u8] = b"- ";
 
 // The key of a code's line: s, the code's two digits, =.
+#[tactic(auto, using(crate::proofs::Takes::code_key_is))]
 pub fn of_code(code: usize) -> [u8; 4]
     ensures { code ≤ 99 → result ≡ code_key code }
 {

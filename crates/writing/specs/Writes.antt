@@ -1,11 +1,11 @@
 -- What it is to write bytes after a text in place, and to hand a text out.
-use Rattle.std.specs.Prelude.{◌≡◌, ℕ, ◌+◌, ◌<◌, ◌≤◌, List, ◌++◌, length, drop, Ok, Err, Result}
+use Rattle.std.specs.Prelude.{◌≡◌, ℕ, ◌<◌, ◌≤◌, List, ◌++◌, length, take, drop, Ok, Err, Result}
 use Rattle.adders.specs.declared.refusals.Refusal.{Refusal}
 use Rattle.adders.specs.declared.refusals.Refusal.TheVariants.{BufferTooShort}
 
--- the text old, having been written bs, is new, as long as there is room
+-- the text old, having been written bs, is new: the first 4,096 bytes of the two together
 abbrev pub Wrote : List ℕ → List ℕ → List ℕ → Type 0
-Wrote old bs new = length old + length bs ≤ 4096 → new ≡ old ++ bs
+Wrote old bs new = new ≡ take 4096 (old ++ bs)
 
 -- a text that was handed out at the front of a buffer, or turned down where the buffer is shorter
 abbrev pub Written : List ℕ → List ℕ → Result ℕ Refusal → List ℕ → Type 0

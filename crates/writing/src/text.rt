@@ -6,9 +6,9 @@ use adders::Refusal;
 use std::marker::Model;
 
 // The most bytes that a sheet has.
-const MOST: usize = 4096;
+pub(crate) const MOST: usize = 4096;
 
-// A text of at most 4,096 bytes. What does not fit is let go.
+// A text of at most 4,096 bytes. Of what is written past them nothing is kept.
 #[derive(Drop)]
 pub struct SheetText {
     bytes: [u8; MOST],
@@ -50,6 +50,7 @@ impl SheetText {
     }
 
     // One byte more at the end, where there is room.
+    #[tactic(auto, using(crate::proofs::Joins::one_more, crate::proofs::Joins::no_more))]
     pub fn push(&mut self, byte: u8)
         ensures wrote { Wrote self.old (byte ∷ []) self.new }
         ensures full { 4096 ≤ length self.old → self.new ≡ self.old }
@@ -58,6 +59,16 @@ impl SheetText {
             self.bytes[self.len] = byte;
             self.len += 1;
         }
+    }
+
+    // The bytes of a key, as many as there is room for.
+    #[tactic(auto, using(crate::proofs::Joins::kept_front))]
+    pub fn key(&mut self, key: &[u8])
+        ensures { Wrote self.old key.now self.new }
+    {
+        let kept = key.len().min(MOST - self.len);
+        self.bytes[self.len..self.len + kept].copy_from_slice(&key[..kept]);
+        self.len += kept;
     }
 
     // The text to the front of a buffer, and its length; a buffer that is shorter stays as it is.

@@ -2,7 +2,7 @@ use Rattle.std.proofs.Common.{drop}
 use Rattle.ports.specs.Ports.{ports}
 use Rattle.ports.specs.Inputs.{inputs}
 use Rattle.sheetlaws.specs.Sheets.{port_lines}
-use Rattle.sheets.proofs.Writes.{Finishes}
+use Rattle.writing.proofs.Joins.{Finishes}
 use Rattle.sheets.proofs.writer.write_ports.Given as goal
 
 abbrev pub invariant-loop-place : goal.invariant-loop-place
