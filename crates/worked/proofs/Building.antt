@@ -117,5 +117,5 @@ module _ (a w : ℕ) (few : a ≤ 8) (some : 1 ≤ w) (most : w ≤ 32) (r : Row
     one b u =
         is_pair a w few some most r fits_r s fits_s b (u.adders ∙ sym adders) u.width
         (u.at_0 ∙ ap Some (same_of first u.row_0 r u.of_first of_first))
-        (u.at_1 ∙ ap Some (row_one a second p u.row_1 s chosen.admissible u.of_second of_second))
+        (u.at_1 ∙ ap Some (row_one before second p u.row_1 s chosen.admissible u.of_second of_second))
         u.others
