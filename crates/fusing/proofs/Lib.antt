@@ -5,3 +5,4 @@ mod Following
 mod Choosing
 pub mod Determined
 mod Swaps
+mod InPlace
