@@ -7,7 +7,8 @@ use crate::cursor::{Broken, Cursor};
 use crate::planted::{self, Plant};
 use crate::refusal::{Cause, Refusal};
 
-const LONGEST_LINE: usize = 200;
+/// The most bytes of a chain line, and of the generator's width line.
+pub const LONGEST_LINE: usize = 200;
 
 /// Adders and an output shift that keep every rule of a chain.
 #[derive(Clone, Debug, PartialEq, Eq)]

@@ -1,7 +1,7 @@
 //! Lines of a script of calls, and the generator's width line.
 
 use crate::block::{judge_width, Block};
-use crate::chain::Chain;
+use crate::chain::{Chain, LONGEST_LINE};
 use crate::cursor::{Broken, Cursor};
 use crate::fusing::fuse;
 use crate::planted::{self, Plant};
@@ -154,6 +154,9 @@ fn chain_line<'a>(cursor: &mut Cursor<'a>) -> Result<&'a [u8], Broken> {
 
 /// Reads the generator's width line.
 pub fn read_width(line: &[u8]) -> Result<u32, Refusal> {
+    if line.len() > LONGEST_LINE {
+        return Err(Cause::BrokenForm.at(LONGEST_LINE));
+    }
     let width = parse_width(line).map_err(|Broken(place)| Cause::BrokenForm.at(place))?;
     judge_width(width)
 }
@@ -227,5 +230,12 @@ mod tests {
         for (line, refusal) in cases {
             assert_eq!(read_width(line), Err(refusal));
         }
+    }
+
+    #[test]
+    fn a_width_line_of_more_than_200_bytes_is_too_long() {
+        let line = [b"width=" as &[u8], &[b'1'; 200]].concat();
+        assert_eq!(read_width(&line[..200]), Err(Cause::BrokenForm.at(8)));
+        assert_eq!(read_width(&line[..201]), Err(Cause::BrokenForm.at(200)));
     }
 }

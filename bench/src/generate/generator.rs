@@ -102,5 +102,9 @@ fn any_width(random: &mut Random) -> Vec<u8> {
     let key = random.pick(&[
         "width=", "width=", "width=", "width=", "Width=", "width", "adders=",
     ]);
-    format!("{key}{width}").into_bytes()
+    let mut line = format!("{key}{width}").into_bytes();
+    if random.chance(20) {
+        line.resize(random.between(199, 203), b'0');
+    }
+    line
 }

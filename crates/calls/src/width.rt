@@ -7,6 +7,9 @@ use adders::Refusal;
 use forms::{Key, Keyed};
 use integers::TwoDigits;
 
+// The most bytes of a line.
+const MOST_BYTES: usize = 200;
+
 // The most bits that a sample has.
 const MOST_BITS: u32 = 32;
 
@@ -28,6 +31,9 @@ pub fn read_width(line: &[u8]) -> Result<usize, Refusal>
     ensures answer { WidthReading line.now result }
     ensures only { Only (WidthReading line.now) result }
 {
+    if line.len() > MOST_BYTES {
+        return Err(Refusal::LineTooLong);
+    }
     let width = forms::read::<Width>(line)?;
     if !(1..=MOST_BITS).contains(&width) {
         return Err(Refusal::WidthOutOfRange);

@@ -4,6 +4,7 @@ use Rattle.std.proofs.lemmas.List.{length-replicate}
 use Rattle.std.proofs.lemmas.Bool.{cases_eq, eq-eqb, ne_eqb}
 use Rattle.chains.specs.declared.model.Chain.{Chain}
 use Rattle.chains.specs.Chains.{chain_adders}
+use Rattle.blocks.specs.declared.model.Block.{Block}
 use Rattle.placing.specs.Placements.{Placement, place, Admissible}
 use Rattle.placing.proofs.Standing.{nth_within, nth_lower}
 use Rattle.placing.proofs.Laid.{place_one}
@@ -31,8 +32,8 @@ false_at (suc n) (suc d) = false_at n d
 abbrev pub own_numbers : ℕ → Placement
 own_numbers n = record { places = numbers 1 n; swaps = replicate n false }
 
-pub own_admissible : (count : ℕ) (chain : Chain) → length (chain_adders chain) ≤ count → Admissible count chain (own_numbers (length (chain_adders chain)))
-own_admissible count chain enough =
+pub own_admissible : (before : Block) (chain : Chain) → length (chain_adders chain) ≤ before.adders → Admissible before chain (own_numbers (length (chain_adders chain)))
+own_admissible before chain enough =
     let n = length (chain_adders chain) in
     let whole = length_numbers 1 n in
     let own : (d : ℕ) → d < n → place (own_numbers n) d ≡ 1 + d = λ d h. number_at 1 n d h in
@@ -49,8 +50,8 @@ own_admissible count chain enough =
       kept = λ d a e m. false_at n d;
     }
 
-pub at_own_numbers : (count : ℕ) (chain : Chain) → length (chain_adders chain) ≤ count → (p : Placement) × Admissible count chain p
-at_own_numbers count chain enough = (own_numbers (length (chain_adders chain)), own_admissible count chain enough)
+pub at_own_numbers : (before : Block) (chain : Chain) → length (chain_adders chain) ≤ before.adders → (p : Placement) × Admissible before chain p
+at_own_numbers before chain enough = (own_numbers (length (chain_adders chain)), own_admissible before chain enough)
 
 -- Different numbers from 1 to a bound: the last takes the place of the one that has the bound itself.
 module _ (bound n : ℕ) (f : ℕ → ℕ) (inside : (d : ℕ) → d < suc n → (1 ≤ f d) × (f d ≤ suc bound)) (one : (c d : ℕ) → c < suc n → d < suc n → f c ≡ f d → c ≡ d) where
@@ -93,5 +94,5 @@ few_numbers bound zero f inside one = omega arith
 few_numbers zero (suc n) f inside one = absurd (omega (arith, inside 0 (omega arith)))
 few_numbers (suc bound) (suc n) f inside one = let h = few_numbers bound n (lowered bound n f inside one) (lowered_inside bound n f inside one) (lowered_one bound n f inside one) in omega arith
 
-pub adders_enough : (count : ℕ) (chain : Chain) (p : Placement) → Admissible count chain p → length (chain_adders chain) ≤ count
-adders_enough count chain p adm = few_numbers count (length (chain_adders chain)) (place p) (λ d h. adm.inside d (omega (arith, adm.each_placed))) (place_one count chain p adm)
+pub adders_enough : (before : Block) (chain : Chain) (p : Placement) → Admissible before chain p → length (chain_adders chain) ≤ before.adders
+adders_enough before chain p adm = few_numbers before.adders (length (chain_adders chain)) (place p) (λ d h. adm.inside d (omega (arith, adm.each_placed))) (place_one before chain p adm)

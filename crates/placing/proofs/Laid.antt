@@ -15,6 +15,7 @@ use Rattle.chains.specs.Chains.{chain_adders, chain_constant}
 use Rattle.chains.proofs.Answering.{chain_keeps}
 use Rattle.rows.specs.Reading.{HasSource, Reads, directly, through}
 use Rattle.rows.specs.Rules.{row_constant, Used, KeepsRow}
+use Rattle.blocks.specs.declared.model.Block.{Block}
 use Rattle.placing.specs.Placements.{Placement, nth_adder, place, swap, Admissible, placed_source, placed_operand, placed_adder}
 use Rattle.placing.proofs.Standing.{nth_there, nth_within, nth_sound, nth_lower, NoneAt, stands}
 
@@ -37,7 +38,7 @@ swap_values Minus l r h = absurd (h refl)
 pub some_one : {A : Type 0} {x y : A} → Some x ≡ Some y → x ≡ y
 some_one e = cc
 
-module _ (count : ℕ) (chain : Chain) (p : Placement) (adm : Admissible count chain p) where
+module _ (before : Block) (chain : Chain) (p : Placement) (adm : Admissible before chain p) where
   abbrev cs : Slots
   cs = wired (chain_adders chain)
 
@@ -56,7 +57,7 @@ module _ (count : ℕ) (chain : Chain) (p : Placement) (adm : Admissible count c
   source_below d a zero e has = omega (arith, adm.each_placed, adm.inside d, nth_within chain d a e)
   source_below d a (suc c) e has = adm.fed c d a e has
 
-  pub source_inside : (i : ℕ) → i ≤ n → placed_source p i ≤ count
+  pub source_inside : (i : ℕ) → i ≤ n → placed_source p i ≤ before.adders
   source_inside zero h = omega arith
   source_inside (suc d) h = omega (arith, adm.each_placed, adm.inside d)
 
@@ -202,7 +203,7 @@ module _ (count : ℕ) (chain : Chain) (p : Placement) (adm : Admissible count c
     pub constant_laid : (o : Operand) → o.source ≡ placed_source p n → o.shift ≡ chain.shift → row_constant xs o ≡ chain_constant chain
     constant_laid o s t = (λ i. value xs (s i) * 2 ^ t i) ∙ ap (λ v. v * 2 ^ chain.shift) (value_laid n (omega arith))
 
-    pub keeps_row : (o : Operand) → count ≤ length xs → o.source ≡ placed_source p n → o.shift ≡ chain.shift → KeepsRow xs o
+    pub keeps_row : (o : Operand) → before.adders ≤ length xs → o.source ≡ placed_source p n → o.shift ≡ chain.shift → KeepsRow xs o
     keeps_row o room s t = record {
       adders = sound;
       source = omega (arith, source_inside n (omega arith));

@@ -14,13 +14,13 @@ use Rattle.placing.specs.Placements.{Placement, Admissible, PlacedRow, Placed}
 use Rattle.placing.proofs.Made.{row_made, row_one}
 
 -- the chain's row uses no adder that the block has not
-pub within_block : (count : ℕ) (chain : Chain) (p : Placement) (r : Row) → Admissible count chain p → PlacedRow chain p r → (j : ℕ) → count < j → row_uses (Some r) j ≡ false
-within_block count chain p r adm placed j h = ap is_some (placed.others j (λ d l e. omega (arith, adm.inside d l)))
+pub within_block : (before : Block) (chain : Chain) (p : Placement) (r : Row) → Admissible before chain p → PlacedRow chain p r → (j : ℕ) → before.adders < j → row_uses (Some r) j ≡ false
+within_block before chain p r adm placed j h = ap is_some (placed.others j (λ d l e. omega (arith, adm.inside d l)))
 
-module _ (before : Block) (code : ℕ) (chain : Chain) (p : Placement) (adm : Admissible before.adders chain p) where
+module _ (before : Block) (code : ℕ) (chain : Chain) (p : Placement) (adm : Admissible before chain p) where
   pub block_left : code ≤ 15 → (after : Block) × Placed before code chain p after
   block_left low =
-      let made = row_made before.adders chain p before.few adm in
+      let made = row_made before chain p adm in
       let r = made.0 in
       let t = before.table in
       let after : Block = record {
@@ -31,7 +31,7 @@ module _ (before : Block) (code : ℕ) (chain : Chain) (p : Placement) (adm : Ad
         some_bits = before.some_bits;
         few_bits = before.few_bits;
         room = length-set t.rows code (Some r) ∙ before.room;
-        within = λ k j l. at_each t code (Some r) (λ i o. row_uses o j ≡ false) before.room low (within_block before.adders chain p r adm made.1 j l) (λ i. before.within i j l) k;
+        within = λ k j l. at_each t code (Some r) (λ i o. row_uses o j ≡ false) before.room low (within_block before chain p r adm made.1 j l) (λ i. before.within i j l) k;
       } in (
         after,
         record {
@@ -45,6 +45,6 @@ module _ (before : Block) (code : ℕ) (chain : Chain) (p : Placement) (adm : Ad
   block_one a b of_a of_b =
       all_that_a_block_has a b (of_a.rest.adders ∙ sym of_b.rest.adders) (of_a.rest.width ∙ sym of_b.rest.width)
       (λ k. ⊎_elim
-      (λ e. ap (row_of a) e ∙ of_a.rest.there ∙ ap Some (row_one before.adders chain p of_a.row of_b.row adm of_a.of_chain of_b.of_chain) ∙ sym of_b.rest.there ∙ ap (row_of b) (sym e))
+      (λ e. ap (row_of a) e ∙ of_a.rest.there ∙ ap Some (row_one before chain p of_a.row of_b.row adm of_a.of_chain of_b.of_chain) ∙ sym of_b.rest.there ∙ ap (row_of b) (sym e))
       (λ ne. of_a.rest.others k ne ∙ sym (of_b.rest.others k ne))
       (cases_eq k code))

@@ -14,6 +14,7 @@ use Rattle.rows.specs.Rules.{KeepsRow}
 use Rattle.rows.specs.Rows.{adder_at, row_value_at, constant_of, RowJudged, kept, broken}
 use Rattle.rows.proofs.Keeping.{rules_from_keeps}
 use Rattle.rows.proofs.Answering.{same_row}
+use Rattle.blocks.specs.declared.model.Block.{Block}
 use Rattle.placing.specs.Placements.{Placement, nth_adder, place, swap, Admissible, placed_source, placed_adder, PlacedRow}
 use Rattle.placing.specs.Slots.{first_at, placed_slots, placed_output, IsPlaced}
 use Rattle.placing.proofs.Standing.{nth_there, nth_within, NoneAt, stands}
@@ -36,9 +37,9 @@ module _ (chain : Chain) (p : Placement) (r : Row) (placed : PlacedRow chain p r
   pub used_or_not : (j : ℕ) → ((d : ℕ) × (d < length p.places) × (place p d ≡ j)) ⊎ (adder_at r j ≡ None)
   used_or_not j = ⊎_elim (λ s. inl (s.adder, s.within, s.is)) (λ none. inr (placed.others j none)) (stands p.places j)
 
-  module _ (count : ℕ) (adm : Admissible count chain p) where
+  module _ (before : Block) (adm : Admissible before chain p) where
     pub value_placed : (j : ℕ) → j ≤ length (chain_adders chain) → value r.slots (placed_source p j) ≡ value (wired (chain_adders chain)) j
-    value_placed = value_laid count chain p adm r.slots laid_row
+    value_placed = value_laid before chain p adm r.slots laid_row
 
     pub row_value_placed : (d : ℕ) (a : Adder) → nth_adder chain d ≡ Some a → row_value_at r (place p d) ≡ Some (value (wired (chain_adders chain)) (suc d))
     row_value_placed d a e =
@@ -46,10 +47,10 @@ module _ (chain : Chain) (p : Placement) (r : Row) (placed : PlacedRow chain p r
         ∙ ap Some (value_placed (suc d) (omega (arith, nth_within chain d a e)))
 
     pub constant_placed : constant_of r ≡ chain_constant chain
-    constant_placed = constant_laid count chain p adm r.slots laid_row r.output placed.source placed.shift
+    constant_placed = constant_laid before chain p adm r.slots laid_row r.output placed.source placed.shift
 
 -- two rows of the chain at the same places are the same
-module _ (count : ℕ) (chain : Chain) (p : Placement) (r s : Row) (adm : Admissible count chain p) (of_r : PlacedRow chain p r) (of_s : PlacedRow chain p s) where
+module _ (before : Block) (chain : Chain) (p : Placement) (r s : Row) (adm : Admissible before chain p) (of_r : PlacedRow chain p r) (of_s : PlacedRow chain p s) where
   same_slot : (k : ℕ) → get_or r.slots k None ≡ get_or s.slots k None
   same_slot k =
       let lr = laid_row chain p r of_r in
@@ -105,13 +106,13 @@ slot_at f (suc (suc (suc (suc (suc (suc (suc (suc k)))))))) h = absurd (omega ar
 slot_past : (f : ℕ → Option Adder) (k : ℕ) → 8 ≤ k → get_or (map f (1 ∷ 2 ∷ 3 ∷ 4 ∷ 5 ∷ 6 ∷ 7 ∷ 8 ∷ [])) k None ≡ None
 slot_past f k h = get_or_past (map f (1 ∷ 2 ∷ 3 ∷ 4 ∷ 5 ∷ 6 ∷ 7 ∷ 8 ∷ [])) k None h
 
-module _ (count : ℕ) (chain : Chain) (p : Placement) (few : count ≤ 8) (adm : Admissible count chain p) where
+module _ (before : Block) (chain : Chain) (p : Placement) (adm : Admissible before chain p) where
   laid_slots : Laid chain p (placed_slots p (chain_adders chain))
   laid_slots = record {
     there = λ d k a e s.
         let h = nth_within chain d a e in
         let z : 0 + d ≡ d = omega arith in
-        slot_at (λ j. first_at p j 0 (chain_adders chain)) k (omega (arith, adm.each_placed, adm.inside d, s))
+        slot_at (λ j. first_at p j 0 (chain_adders chain)) k (omega (arith, adm.each_placed, adm.inside d, before.few, s))
         ∙ first_there p (suc k) (chain_adders chain) 0 d a e (ap (place p) z ∙ s) (λ c low high q. adm.apart c d (omega arith) (omega (arith, adm.each_placed)) (q ∙ sym s))
         ∙ ap (λ m. Some (placed_adder p (swap p m) a)) z;
     others = λ k none.
@@ -122,13 +123,13 @@ module _ (count : ℕ) (chain : Chain) (p : Placement) (few : count ≤ 8) (adm 
   }
 
   pub keeps_placed : KeepsRow (placed_slots p (chain_adders chain)) (placed_output p chain)
-  keeps_placed = keeps_row count chain p adm (placed_slots p (chain_adders chain)) laid_slots (placed_output p chain) few refl refl
+  keeps_placed = keeps_row before chain p adm (placed_slots p (chain_adders chain)) laid_slots (placed_output p chain) before.few refl refl
 
   -- what is answered of these slots and this output is the row of the chain
   placed_of : (r : Row) → r.slots ≡ placed_slots p (chain_adders chain) → r.output ≡ placed_output p chain → PlacedRow chain p r
   placed_of r e f = record {
     there = λ d a t.
-        let s = stander count chain p adm d (nth_within chain d a t) in
+        let s = stander before chain p adm d (nth_within chain d a t) in
         ap (adder_at r) s.stands ∙ at_slot r s.slot ∙ ap (λ xs. get_or xs s.slot None) e ∙ laid_slots.there d s.slot a t s.stands;
     others = λ j none. no_other j none;
     source = ap (λ o. o.source) f;
@@ -145,7 +146,7 @@ module _ (count : ℕ) (chain : Chain) (p : Placement) (few : count ≤ 8) (adm 
       (r, placed_of r refl refl)
 
   pub is_placed : (a : Result Row Refusal) → RowJudged (placed_slots p (chain_adders chain)) (placed_output p chain) a → IsPlaced chain p a
-  is_placed (Ok r) (kept h e f) = let of = placed_of r e f in (of, constant_placed chain p r of count adm)
+  is_placed (Ok r) (kept h e f) = let of = placed_of r e f in (of, constant_placed chain p r of before adm)
   is_placed (Err x) (broken h) = some_none (sym h ∙ rules_from_keeps (placed_slots p (chain_adders chain)) (placed_output p chain) keeps_placed)
 
 -- one that stands elsewhere is passed over

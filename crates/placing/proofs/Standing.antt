@@ -10,6 +10,7 @@ use Rattle.adders.proofs.Follow.{within}
 use Rattle.chains.specs.declared.model.Chain.{Chain}
 use Rattle.chains.specs.Chains.{chain_adders}
 use Rattle.chains.proofs.Answering.{chain_keeps}
+use Rattle.blocks.specs.declared.model.Block.{Block}
 use Rattle.placing.specs.Placements.{Placement, nth_adder, Admissible}
 
 module _ (chain : Chain) where
@@ -55,9 +56,9 @@ stands (q ∷ ps) j =
     (cases_eq q j)
 
 -- other swaps, none of them of a minus adder
-pub swapped_otherwise : (count : ℕ) (chain : Chain) (p : Placement) (ss : List Bool) → Admissible count chain p → length ss ≡ length p.swaps
-    → ((d : ℕ) (a : Adder) → nth_adder chain d ≡ Some a → a.sign ≡ Minus → get_or ss d false ≡ false) → Admissible count chain (record { places = p.places; swaps = ss })
-swapped_otherwise count chain p ss adm same kept = record {
+pub swapped_otherwise : (before : Block) (chain : Chain) (p : Placement) (ss : List Bool) → Admissible before chain p → length ss ≡ length p.swaps
+    → ((d : ℕ) (a : Adder) → nth_adder chain d ≡ Some a → a.sign ≡ Minus → get_or ss d false ≡ false) → Admissible before chain (record { places = p.places; swaps = ss })
+swapped_otherwise before chain p ss adm same kept = record {
   each_placed = adm.each_placed;
   each_told = same ∙ adm.each_told;
   inside = adm.inside;

@@ -2,8 +2,8 @@
 --   p       a placement: for each adder of the chain, adder 1 first, the number of the block's adder at which it stands, and whether its operands are swapped
 --   c, d    adders of the chain, counted from 0
 --   j       the number of an adder of the block
---   count   how many adders the block has
---   r, s    rows; a, b: blocks after
+--   before  the block before; a, b: blocks after
+--   r, s    rows
 use Rattle.std.specs.Prelude.{◌≡◌, ℕ, zero, suc, ◌<◌, ◌≤◌, ◌≢◌, Bool, true, false, List, length, Some, None, Option, slice_index, slice_index_or}
 use Rattle.adders.specs.declared.wiring.Adder.{Adder}
 use Rattle.adders.specs.declared.wiring.Operand.{Operand}
@@ -33,10 +33,10 @@ abbrev pub swap : Placement → ℕ → Bool
 swap p d = slice_index_or p.swaps d false
 
 -- Each adder of the chain stands at an adder of the block of its own, above those that feed it; the operands of a minus adder are never swapped.
-pub record Admissible (count : ℕ) (chain : Chain) (p : Placement) : Type 0 where
+pub record Admissible (before : Block) (chain : Chain) (p : Placement) : Type 0 where
   pub each_placed : length p.places ≡ length (chain_adders chain)
   pub each_told : length p.swaps ≡ length (chain_adders chain)
-  pub inside : (d : ℕ) → d < length p.places → (1 ≤ place p d) × (place p d ≤ count)
+  pub inside : (d : ℕ) → d < length p.places → (1 ≤ place p d) × (place p d ≤ before.adders)
   pub apart : (c d : ℕ) → c < d → d < length p.places → place p c ≢ place p d
   pub fed : (c d : ℕ) (a : Adder) → nth_adder chain d ≡ Some a → HasSource a (suc c) → place p c < place p d
   pub kept : (d : ℕ) (a : Adder) → nth_adder chain d ≡ Some a → a.sign ≡ Minus → swap p d ≡ false
@@ -72,11 +72,11 @@ pub record Placed (before : Block) (code : ℕ) (chain : Chain) (p : Placement) 
 
 -- at each admissible placement the chain has one row, and one block is left by it; the row multiplies by the chain's constant
 pub record PlacementLaw : Type 0 where
-  pub row : (count : ℕ) (chain : Chain) (p : Placement) → count ≤ 8 → Admissible count chain p → (row : Row) × PlacedRow chain p row
-  pub row_one : (count : ℕ) (chain : Chain) (p : Placement) (r s : Row) → Admissible count chain p → PlacedRow chain p r → PlacedRow chain p s → r ≡ s
-  pub constant : (count : ℕ) (chain : Chain) (p : Placement) (r : Row) → Admissible count chain p → PlacedRow chain p r → constant_of r ≡ chain_constant chain
-  pub block : (before : Block) (code : ℕ) (chain : Chain) (p : Placement) → code ≤ 15 → Admissible before.adders chain p → (after : Block) × Placed before code chain p after
-  pub block_one : (before : Block) (code : ℕ) (chain : Chain) (p : Placement) (a b : Block) → Admissible before.adders chain p → Placed before code chain p a → Placed before code chain p b → a ≡ b
+  pub row : (before : Block) (chain : Chain) (p : Placement) → Admissible before chain p → (row : Row) × PlacedRow chain p row
+  pub row_one : (before : Block) (chain : Chain) (p : Placement) (r s : Row) → Admissible before chain p → PlacedRow chain p r → PlacedRow chain p s → r ≡ s
+  pub constant : (before : Block) (chain : Chain) (p : Placement) (r : Row) → Admissible before chain p → PlacedRow chain p r → constant_of r ≡ chain_constant chain
+  pub block : (before : Block) (code : ℕ) (chain : Chain) (p : Placement) → code ≤ 15 → Admissible before chain p → (after : Block) × Placed before code chain p after
+  pub block_one : (before : Block) (code : ℕ) (chain : Chain) (p : Placement) (a b : Block) → Admissible before chain p → Placed before code chain p a → Placed before code chain p b → a ≡ b
   -- there is a placement exactly where the block has no fewer adders than the chain
-  pub some : (count : ℕ) (chain : Chain) → length (chain_adders chain) ≤ count → (p : Placement) × Admissible count chain p
-  pub enough : (count : ℕ) (chain : Chain) (p : Placement) → Admissible count chain p → length (chain_adders chain) ≤ count
+  pub some : (before : Block) (chain : Chain) → length (chain_adders chain) ≤ before.adders → (p : Placement) × Admissible before chain p
+  pub enough : (before : Block) (chain : Chain) (p : Placement) → Admissible before chain p → length (chain_adders chain) ≤ before.adders

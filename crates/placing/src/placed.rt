@@ -1,7 +1,8 @@
 // The row of a chain at a placement.
-ghost use Rattle.std.specs.Prelude.{◌≡◌, ℕ, ◌≤◌};
+ghost use Rattle.std.specs.Prelude.{◌≡◌};
 ghost use Rattle.chains.specs.Chains.{chain_adders};
 ghost use Rattle.rows.specs.Rows.{RowJudged};
+ghost use Rattle.blocks.specs.declared.model.Block.{Block};
 ghost use Rattle.placing.specs.Placements.{place, swap, placed_source, placed_operand, placed_adder, Admissible};
 ghost use Rattle.placing.specs.Slots.{at_places, first_at, placed_slots, placed_output, IsPlaced};
 
@@ -95,10 +96,9 @@ impl Placement<'_> {
 }
 
 // The row of the chain with its adders at these places, some with their operands swapped; or the first rule of a row that this breaks, as no admissible placement does.
-#[tactic(auto, using(crate::proofs::Made::is_placed))]
 pub fn placed_row(chain: &Chain, places: &[u8], swaps: &[bool]) -> Result<Row, Refusal>
     ensures answer { RowJudged (placed_slots (at_places places.now swaps.now) (chain_adders chain.now)) (placed_output (at_places places.now swaps.now) chain.now) result }
-    ensures placed { (count : ℕ) → count ≤ 8 → Admissible count chain.now (at_places places.now swaps.now) → IsPlaced chain.now (at_places places.now swaps.now) result }
+    ensures placed { (before : Block) → Admissible before chain.now (at_places places.now swaps.now) → IsPlaced chain.now (at_places places.now swaps.now) result }
 {
     let placement = Placement { places, swaps };
     Row::new(placement.slots(chain.adders()), placement.output(chain))

@@ -1,3 +1,4 @@
 pub mod Ports
 pub mod Inputs
 pub mod InputLaws
+pub mod Fewer

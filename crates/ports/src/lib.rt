@@ -6,6 +6,6 @@ mod laws;
 mod list;
 mod port;
 
-pub use laws::inputs_are_what_rows_put;
+pub use laws::{inputs_are_what_rows_put, some_rows_put_some_inputs};
 pub use list::InputList;
 pub use port::Port;

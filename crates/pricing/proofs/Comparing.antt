@@ -1,19 +1,17 @@
 -- A block with some of the rows of another costs no more.
-use Rattle.std.proofs.Common.{◌≡◌, ℕ, zero, suc, ◌-◌, ◌≤◌, Bool, true, false, length, Some, None, Ok, Err, Option, Result, sym, refl, ap, ◌∙◌, inl, inr, arith}
-use Rattle.std.proofs.lemmas.Bool.{cases_order}
+use Rattle.std.proofs.Common.{◌≡◌, ℕ, zero, suc, ◌-◌, ◌≤◌, Bool, true, false, length, Some, None, Ok, Err, Option, Result, sym, refl, ap, inl, inr, arith}
 use Rattle.adders.specs.declared.refusals.Refusal.{Refusal}
 use Rattle.adders.specs.declared.wiring.Sign.{Sign}
 use Rattle.adders.specs.declared.wiring.Sign.TheVariants.{Plus, Minus}
-use Rattle.adders.proofs.Broken.{some_none}
 use Rattle.rows.specs.declared.model.Row.{Row}
 use Rattle.blocks.specs.declared.model.Block.{Block}
 use Rattle.blocks.specs.Blocks.{row_of, Rewritten}
 use Rattle.blocks.specs.Calls.{retiring, Step}
 use Rattle.ports.specs.declared.port.Port.{Port}
 use Rattle.ports.specs.declared.port.Port.TheVariants.{Left, Right, Output}
-use Rattle.ports.specs.Ports.{put_at}
 use Rattle.ports.specs.Inputs.{inputs}
-use Rattle.ports.proofs.Ascending.{inputs_law, ascending_fewer}
+use Rattle.ports.proofs.Ascending.{inputs_law}
+use Rattle.ports.proofs.Fewer.{there_too, more_inputs, row_less, row_more}
 use Rattle.bits.proofs.Least.{bits_more, bits_few}
 use Rattle.prices.specs.declared.adder.AdderKind.{AdderKind}
 use Rattle.prices.specs.declared.adder.AdderKind.TheVariants.{Adds, Subtracts}
@@ -45,14 +43,6 @@ width_few b n = omega (arith, b.few_bits, bits_few (largest_on b n) (largest_sma
 -- Parts of two blocks, of which one has some of the other's rows.
 
 module _ (a b : Block) (some : SomeRowsOf a b) where
-  -- what stands at a code of a stands there in b
-  there : {X : Type 0} (f : Option Row → Option X) (code : ℕ) (x : X) → f None ≡ None → f (row_of a code) ≡ Some x → f (row_of b code) ≡ Some x
-  there f code x none e =
-      elim (some.rows code) [
-        | inl idle ↦ absurd (some_none (sym e ∙ ap f idle ∙ none))
-        | inr same ↦ ap f (sym same) ∙ e
-      ]
-
   wider : (n : Net) → width_of a n ≤ width_of b n
   wider n = let larger = bits_more (largest_on a n) (largest_on b n) under in omega (arith, some.width, larger)
     where
@@ -60,17 +50,11 @@ module _ (a b : Block) (some : SomeRowsOf a b) where
       under =
           elim (values_law a n).reached [
             | inl e ↦ omega arith
-            | inr h ↦ (values_law b n).least h.0 (largest_on a n) (there (λ r. value_on r n) h.0 (largest_on a n) refl h.1)
+            | inr h ↦ (values_law b n).least h.0 (largest_on a n) (there_too a b some.rows (λ r. value_on r n) h.0 (largest_on a n) refl h.1)
           ]
 
-  more_inputs : (p : Port) → length (inputs a p) ≤ length (inputs b p)
-  more_inputs p =
-      let x = inputs_law.these a p in
-      let y = inputs_law.these b p in
-      ascending_fewer (inputs a p) (inputs b p) x.ascending y.ascending (λ o h. let s = x.only o h in y.all o (s.0, there (λ r. put_at r p) s.0 o refl s.1))
-
   more_signs : (s : Sign) (j : ℕ) → met s a j ≡ true → met s b j ≡ true
-  more_signs s j e = let r = (signs_law s a j).found e in (signs_law s b j).counted r.0 (there (λ r. sign_used r j) r.0 s refl r.1)
+  more_signs s j e = let r = (signs_law s a j).found e in (signs_law s b j).counted r.0 (there_too a b some.rows (λ r. sign_used r j) r.0 s refl r.1)
 
 -- Prices.
 
@@ -103,7 +87,7 @@ module _ (a b : Block) (some : SomeRowsOf a b) where
   unfolding port_price
   ports_grow price law p =
       let n : Net = OfPort p in
-      mux_grows price law (length (inputs a p)) (length (inputs b p)) (width_of a n) (width_of b n) (more_inputs a b some p) (inputs_law.few b p) (width_some a n) (wider a b some n) (width_few b n)
+      mux_grows price law (length (inputs a p)) (length (inputs b p)) (width_of a n) (width_of b n) (more_inputs a b some.rows p) (inputs_law.few b p) (width_some a n) (wider a b some n) (width_few b n)
 
   adders_grow : (price : AdderTable) → LawfulAdders price → (j : ℕ) → adder_price price a j ≤ adder_price price b j
   unfolding adder_price
@@ -134,28 +118,10 @@ rows_never_cheapen = never_cheapen
 
 module _ (before after : Block) (code : ℕ) where
   pub one_less : Rewritten before code None after → SomeRowsOf after before
-  one_less w = record {
-    adders = w.adders;
-    width = w.width;
-    rows = λ k.
-        elim (cases_order k code) [
-          | inl e ↦ inl (ap (row_of after) e ∙ w.there)
-          | inr (inl l) ↦ inr (w.others k (λ e. absurd (omega (arith, e))))
-          | inr (inr l) ↦ inr (w.others k (λ e. absurd (omega (arith, e))))
-        ];
-  }
+  one_less w = record { adders = w.adders; width = w.width; rows = row_less before after code w }
 
   pub one_more : (row : Row) → row_of before code ≡ None → Rewritten before code (Some row) after → SomeRowsOf before after
-  one_more row idle w = record {
-    adders = sym w.adders;
-    width = sym w.width;
-    rows = λ k.
-        elim (cases_order k code) [
-          | inl e ↦ inl (ap (row_of before) e ∙ idle)
-          | inr (inl l) ↦ inr (sym (w.others k (λ e. absurd (omega (arith, e)))))
-          | inr (inr l) ↦ inr (sym (w.others k (λ e. absurd (omega (arith, e)))))
-        ];
-  }
+  one_more row idle w = record { adders = sym w.adders; width = sym w.width; rows = row_more before after code row idle w }
 
 pub same_never_dearer : (a b : Block) → a ≡ b → NeverDearer a b
 same_never_dearer a b e t law = let same = ap (block_price t) e in omega arith

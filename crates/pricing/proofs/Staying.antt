@@ -1,19 +1,14 @@
 -- An operand that stands at its port already changes nothing there, as long as its value needs no more bits.
-use Rattle.std.proofs.Common.{◌≡◌, ℕ, ◌+◌, ◌*◌, ◌^◌, ◌<◌, ◌≤◌, List, Some, None, sym, ap, ◌∙◌, max, arith, subst, inl, inr, ⊎_elim}
+use Rattle.std.proofs.Common.{◌≡◌, ℕ, ◌*◌, ◌^◌, ◌<◌, ◌≤◌, List, sym, ap, ◌∙◌, max, arith, subst, ⊎_elim}
 use Rattle.std.proofs.lemmas.Bool.{cases_lt}
 use Rattle.adders.specs.declared.wiring.Operand.{Operand}
 use Rattle.adders.specs.Values.{value}
-use Rattle.rows.specs.declared.model.Row.{Row}
-use Rattle.blocks.specs.declared.model.Block.{Block}
-use Rattle.blocks.specs.Blocks.{row_of, Rewritten}
 use Rattle.bits.specs.Bits.{bits}
 use Rattle.bits.proofs.Least.{bits_more}
-use Rattle.ports.specs.declared.port.Port.{Port}
-use Rattle.ports.specs.Ports.{operand_at}
 use Rattle.ports.specs.Inputs.{insert, inputs, Among, Ascends}
 use Rattle.ports.proofs.Ascending.{inputs_law, has_only, has_kept, insert_ascends, ascending_same}
 use Rattle.pricing.specs.declared.net.Net.TheVariants.{OfPort}
-use Rattle.pricing.specs.Nets.{operand_value, largest_on, width_of}
+use Rattle.pricing.specs.Nets.{operand_value, largest_on}
 use Rattle.pricing.specs.Laws.{with_input, with_value, PortStays}
 use Rattle.pricing.proofs.Adding.{one_row_more}
 
@@ -32,12 +27,14 @@ bits_of_larger v m h =
     (cases_lt v m)
 
 pub port_stays : PortStays
-port_stays code row before after p o idle w put among few =
+port_stays code row before after p idle w i =
     let more = one_row_more code row before after idle w in
-    let here = inputs_law.these before p in
+    let o = i.operand in
     let v = value row.slots o.source * 2 ^ o.shift in
-    let largest : largest_on after (OfPort p) ≡ max v (largest_on before (OfPort p)) = more.values (OfPort p) ∙ ap (λ x. with_value (operand_value row x) (largest_on before (OfPort p))) put in
-    let same : bits (largest_on after (OfPort p)) ≡ bits (largest_on before (OfPort p)) = ap bits largest ∙ bits_of_larger v (largest_on before (OfPort p)) few in (
-      more.inputs p ∙ ap (λ x. with_input x (inputs before p)) put ∙ there_already o (inputs before p) here.ascending among,
-      omega (arith, w.width, same),
-    )
+    let was = largest_on before (OfPort p) in
+    let largest : largest_on after (OfPort p) ≡ max v was = more.values (OfPort p) ∙ ap (λ x. with_value (operand_value row x) was) i.put in
+    let same : bits (largest_on after (OfPort p)) ≡ bits was = ap bits largest ∙ bits_of_larger v was i.no_wider in
+    record {
+      inputs = more.inputs p ∙ ap (λ x. with_input x (inputs before p)) i.put ∙ there_already o (inputs before p) (inputs_law.these before p).ascending i.there;
+      width = omega (arith, w.width, same);
+    }

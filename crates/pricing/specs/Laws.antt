@@ -1,17 +1,20 @@
 -- What parts are, and how the prices of blocks compare.
-use Rattle.std.specs.Prelude.{◌≡◌, ℕ, ◌+◌, ◌*◌, ◌^◌, ◌≤◌, true, ◌||◌, ◌⊎◌, List, Some, None, Option, Result, max}
+use Rattle.std.specs.Prelude.{◌≡◌, ℕ, ◌+◌, ◌*◌, ◌^◌, ◌≤◌, true, ◌||◌, ◌⊎◌, List, Some, None, Ok, Err, Option, Result, max}
 use Rattle.adders.specs.declared.refusals.Refusal.{Refusal}
 use Rattle.adders.specs.declared.wiring.Operand.{Operand}
 use Rattle.adders.specs.declared.wiring.Sign.{Sign}
+use Rattle.adders.specs.Values.{value}
+use Rattle.adders.specs.Rules.{Changed}
 use Rattle.rows.specs.declared.model.Row.{Row}
+use Rattle.tables.specs.Tables.{live_rules}
 use Rattle.blocks.specs.declared.model.Block.{Block}
 use Rattle.blocks.specs.Blocks.{row_of, Rewritten}
 use Rattle.blocks.specs.Calls.{retiring, Step}
 use Rattle.ports.specs.declared.port.Port.{Port}
 use Rattle.ports.specs.Ports.{operand_at}
 use Rattle.ports.specs.Inputs.{insert, inputs, Among}
+use Rattle.ports.specs.Fewer.{SomeRows}
 use Rattle.bits.specs.Bits.{bits}
-use Rattle.adders.specs.Values.{value}
 use Rattle.prices.specs.Tables.{Tables, Lawful}
 use Rattle.pricing.specs.declared.net.Net.{Net}
 use Rattle.pricing.specs.declared.net.Net.TheVariants.{OfPort}
@@ -51,13 +54,31 @@ pub record OneMore (row : Row) (before after : Block) : Type 0 where
 
 -- so that the price splits part by part
 abbrev pub OneRowMore : Type 0
-OneRowMore = (code : ℕ) (row : Row) (before after : Block) → row_of before code ≡ None → Rewritten before code (Some row) after → OneMore row before after
+OneRowMore =
+    (code : ℕ) (row : Row) (before after : Block)
+    → row_of before code ≡ None
+    → Rewritten before code (Some row) after
+    → OneMore row before after
 
--- an operand that stands at its port already, with a value of no more bits than the port has, changes nothing there
+-- the row puts at a port an operand that stands there already, with a value of no more bits than the port has
+pub record InPlace (row : Row) (b : Block) (p : Port) : Type 0 where
+  pub operand : Operand
+  pub put : operand_at row p ≡ Some operand
+  pub there : Among operand (inputs b p)
+  pub no_wider : bits (value row.slots operand.source * 2 ^ operand.shift) ≤ bits (largest_on b (OfPort p))
+
+-- then it changes neither the inputs there nor the width
+pub record PortSame (p : Port) (before after : Block) : Type 0 where
+  pub inputs : inputs after p ≡ inputs before p
+  pub width : width_of after (OfPort p) ≡ width_of before (OfPort p)
+
 abbrev pub PortStays : Type 0
-PortStays = (code : ℕ) (row : Row) (before after : Block) (p : Port) (o : Operand) → row_of before code ≡ None → Rewritten before code (Some row) after
-    → operand_at row p ≡ Some o → Among o (inputs before p) → bits (value row.slots o.source * 2 ^ o.shift) ≤ bits (largest_on before (OfPort p))
-    → (inputs after p ≡ inputs before p) × (width_of after (OfPort p) ≡ width_of before (OfPort p))
+PortStays =
+    (code : ℕ) (row : Row) (before after : Block) (p : Port)
+    → row_of before code ≡ None
+    → Rewritten before code (Some row) after
+    → InPlace row before p
+    → PortSame p before after
 
 -- under every lawful list, a costs no more than b
 abbrev pub NeverDearer : Block → Block → Type 0
@@ -67,7 +88,7 @@ NeverDearer a b = (t : Tables) → Lawful t → block_price t a ≤ block_price 
 pub record SomeRowsOf (a b : Block) : Type 0 where
   pub adders : a.adders ≡ b.adders
   pub width : a.width ≡ b.width
-  pub rows : (code : ℕ) → (row_of a code ≡ None) ⊎ (row_of a code ≡ row_of b code)
+  pub rows : SomeRows a b
 
 -- rows cost nothing or more, whichever there are already
 abbrev pub RowsNeverCheapen : Type 0
@@ -75,10 +96,25 @@ RowsNeverCheapen = (a b : Block) → SomeRowsOf a b → NeverDearer a b
 
 -- so that retiring never makes a block dearer, and a row at an idle code never makes it cheaper
 pub record CallsNeverCheapen : Type 0 where
-  pub retired : (code : ℕ) (before after : Block) (r : Result Unit Refusal) → Step (retiring code) before r after → NeverDearer after before
-  pub added : (code : ℕ) (row : Row) (before after : Block) → row_of before code ≡ None → Rewritten before code (Some row) after → NeverDearer before after
+  pub retired : (code : ℕ) (before after : Block) (r : Result Unit Refusal)
+      → Step (retiring code) before r after
+      → NeverDearer after before
+  pub added : (code : ℕ) (row : Row) (before after : Block)
+      → row_of before code ≡ None
+      → Rewritten before code (Some row) after
+      → NeverDearer before after
 
 -- the code is idle after it, and the block costs so much less under one list
 pub record Saved (t : Tables) (b : Block) (code less : ℕ) (after : Block) : Type 0 where
   pub rest : Rewritten b code None after
   pub saved : block_price t after + less ≡ block_price t b
+
+-- What the rules say of a retiring that answers what it saves.
+abbrev pub Saving : Tables → ℕ → Block → Result ℕ Refusal → Block → Type 0
+Saving t code b r after =
+    Changed (live_rules code (row_of b code)) b (λ less c. Saved t b code less c) r after
+
+-- what the block's own retiring answers: nothing but that it is done
+abbrev pub without_number : Result ℕ Refusal → Result Unit Refusal
+without_number (Ok less) = Ok tt
+without_number (Err e) = Err e
