@@ -21,6 +21,7 @@ use Rattle.ports.specs.Inputs.{inputs}
 use Rattle.prices.specs.Tables.{Tables, Lawful}
 use Rattle.pricing.specs.declared.net.Net.TheVariants.{OfPort}
 use Rattle.pricing.specs.Nets.{width_of}
+use Rattle.pricing.specs.Laws.{InPlace}
 use Rattle.pricing.specs.Prices.{mux_price, port_price, adder_with_ports, total, block_price}
 use Rattle.pricing.proofs.Staying.{port_stays}
 use Rattle.pricing.proofs.Comparing.{one_more, ports_grow, total_grows}
@@ -31,7 +32,7 @@ use Rattle.placing.specs.Placements.{Placement, nth_adder, place, swap, Admissib
 use Rattle.placing.proofs.Standing.{nth_there, nth_within, nth_lower, stands}
 use Rattle.placing.proofs.Made.{value_placed}
 use Rattle.fusing.specs.Fusing.{Chosen}
-use Rattle.fusing.specs.Swaps.{as_it_is, AddsNothing, InPlaceStays}
+use Rattle.fusing.specs.Swaps.{as_it_is, InPlaceStays}
 use Rattle.fusing.proofs.Swaps.{kept_own, kept_other, kept_admissible, swaps_pay}
 
 module _ (t : Tables) (law : Lawful t) (before : Block) (code : ℕ) (chain : Chain) (p : Placement) (d : ℕ) (after other : Block) (idle : row_of before code ≡ None) (c : Chosen t before code chain p after) (as_is : Placed before code chain (as_it_is d p) other) where
@@ -85,12 +86,11 @@ module _ (t : Tables) (law : Lawful t) (before : Block) (code : ℕ) (chain : Ch
         ∙ sym in_after
 
   -- a port where the operand adds nothing costs what it cost, and so no more than with another operand
-  module _ (port : Port) (x y : Operand) (here : operand_at s port ≡ Some x) (there : operand_at r port ≡ Some y) (nothing : AddsNothing before s port) where
+  module _ (port : Port) (x y : Operand) (here : operand_at s port ≡ Some x) (there : operand_at r port ≡ Some y) (nothing : InPlace s before port) where
     kept_price : port_price t.muxes other port ≡ port_price t.muxes before port
     unfolding port_price
     kept_price =
-        let n = nothing x here in
-        let same = port_stays code s before other port x idle as_is.rest here n.0 n.1 in λ i. mux_price t.muxes (length (same.0 i)) (same.1 i)
+        let same = port_stays code s before other port idle as_is.rest nothing in λ i. mux_price t.muxes (length (same.inputs i)) (same.width i)
 
     no_dearer_port : port_with t.muxes w (port_of before port) (valued_operand s x) ≤ port_with t.muxes w (port_of before port) (valued_operand r y)
     no_dearer_port =
@@ -98,7 +98,7 @@ module _ (t : Tables) (law : Lawful t) (before : Block) (code : ℕ) (chain : Ch
         let a = port_after code r before after idle c.placed.rest t port y there in
         let grows = ports_grow before after (one_more before after code r idle c.placed.rest) t.muxes law.muxes port in omega (arith, kept_price)
 
-  module _ (at_left : AddsNothing before s (Left (place p d))) (at_right : AddsNothing before s (Right (place p d))) (turned : swap p d ≡ true) where
+  module _ (at_left : InPlace s before (Left (place p d))) (at_right : InPlace s before (Right (place p d))) (turned : swap p d ≡ true) where
     here : (a : Adder) → nth_adder chain d ≡ Some a → adder_with_ports t other (place p d) ≤ adder_with_ports t after (place p d)
     unfolding ports_with
     here a at =
@@ -147,9 +147,9 @@ module _ (t : Tables) (law : Lawful t) (before : Block) (code : ℕ) (chain : Ch
         let o = ap (total (adder_with_ports t other)) as_is.rest.adders in
         let x = ap (total (adder_with_ports t after)) c.placed.rest.adders in omega (arith, output)
 
-  stays : AddsNothing before s (Left (place p d)) → AddsNothing before s (Right (place p d)) → (turn : Bool) → swap p d ≡ turn → swap p d ≡ false
+  stays : InPlace s before (Left (place p d)) → InPlace s before (Right (place p d)) → (turn : Bool) → swap p d ≡ turn → swap p d ≡ false
   stays l k false e = e
   stays l k true e = absurd (omega (arith, no_dearer l k e, swaps_pay t before code chain p d after other c e as_is))
 
 pub in_place_stays : InPlaceStays
-in_place_stays t law before code chain p d after other idle c as_is l k = stays t law before code chain p d after other idle c as_is l k (swap p d) refl
+in_place_stays t before code chain p d after other law idle c as_is l k = stays t law before code chain p d after other idle c as_is l k (swap p d) refl
