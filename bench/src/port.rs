@@ -30,7 +30,7 @@ impl Port {
         }
     }
 
-    /// The different operands that live rows put here, ascending.
+    /// What live rows put here, each operand once, ascending.
     pub fn inputs(self, block: &Block) -> Inputs {
         let mut inputs = Inputs::none();
         block

@@ -11,7 +11,7 @@ use crate::refusal::{Cause, Refusal};
 
 const HIGHEST_UNIT: u64 = 1000;
 
-/// The least b with 2^b at least the value.
+/// The exponent of the lowest power of two that the value does not exceed.
 pub fn bits(value: Value) -> u32 {
     (0..63).find(|&b| 1 << b >= value).unwrap_or(63)
 }

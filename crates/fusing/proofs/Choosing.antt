@@ -144,7 +144,7 @@ module _ {L : Type 0} (t : Tables) (law : Lawful t) (b : Block) (chain : Chain) 
       ap swap_of (way_is (take d ps) d (get_or ps d 0) a low high e) ∙ ap (λ g. is_plus g && ltb (ports_with t.muxes b.width h u.right u.left) (ports_with t.muxes b.width h u.left u.right)) minus
 
   -- A placement with each adder the cheaper way round.
-  module _ (code : ℕ) (idle : row_of b code ≡ None) (p : Placement) (adm : Admissible b.adders chain p) (best : (d : ℕ) → d < n → swap p d ≡ best_swap p.places d) (after : Block) (placed : Placed b code chain p after) where
+  module _ (code : ℕ) (idle : row_of b code ≡ None) (p : Placement) (adm : Admissible b chain p) (best : (d : ℕ) → d < n → swap p d ≡ best_swap p.places d) (after : Block) (placed : Placed b code chain p after) where
     parts : (before : List ℕ) (d : ℕ) (a : Adder) → ((i : ℕ) → i < d → get_or before i 0 ≡ place p i) → nth_adder chain d ≡ Some a
         → adder_with_ports t after (place p d) ≡ adder_with t b.width (adder_of t b (place p d)) (turned (swap p d) (use_after before d a))
     parts before d a g e = part_after t b chain task is p adm placed.row placed.of_chain code after idle placed.rest before d a g e
@@ -180,7 +180,7 @@ module _ {L : Type 0} (t : Tables) (law : Lawful t) (b : Block) (chain : Chain) 
         omega (arith, price_after t b chain task is p adm placed.row placed.of_chain code after idle placed.rest law, rising [] p.places refl)
 
     -- Against the same places with other swaps.
-    module _ (q : Placement) (other_adm : Admissible b.adders chain q) (same : q.places ≡ p.places) (other : Block) (placed_other : Placed b code chain q other) where
+    module _ (q : Placement) (other_adm : Admissible b chain q) (same : q.places ≡ p.places) (other : Block) (placed_other : Placed b code chain q other) where
       same_place : (d : ℕ) → place q d ≡ place p d
       same_place d = ap (λ xs. get_or xs d 0) same
 
@@ -207,7 +207,7 @@ module _ {L : Type 0} (t : Tables) (law : Lawful t) (b : Block) (chain : Chain) 
           omega (arith, no_less code placed_other.row b other idle placed_other.rest t law j))
           (used_or_not chain p placed.row placed.of_chain j)
 
-      sums : (x : Block) → (y : Placement) → (Admissible b.adders chain y) → Placed b code chain y x → y.places ≡ p.places → block_price t x ≡ total (adder_with_ports t x) b.adders + port_with t.muxes b.width (port_of b Output) (moved p.places task.output)
+      sums : (x : Block) → (y : Placement) → (Admissible b chain y) → Placed b code chain y x → y.places ≡ p.places → block_price t x ≡ total (adder_with_ports t x) b.adders + port_with t.muxes b.width (port_of b Output) (moved p.places task.output)
       sums x y ok at_x e =
           let out = output_after t b chain task is y ok at_x.row at_x.of_chain code x idle at_x.rest ∙ ap (λ xs. port_with t.muxes b.width (port_of b Output) (moved xs task.output)) e in
           λ i. total (adder_with_ports t x) (at_x.rest.adders i) + out i
@@ -233,16 +233,16 @@ module _ {L : Type 0} (t : Tables) (law : Lawful t) (b : Block) (chain : Chain) 
           omega (arith, total_less (adder_with_ports t after) (adder_with_ports t other) b.adders (place p d) part_no_dearer i.0 i.1 (omega (arith, own_part d a.0 a.1)))
 
   -- Each placement has one at its places with each adder the cheaper way round.
-  module _ (q : Placement) (adm : Admissible b.adders chain q) where
+  module _ (q : Placement) (adm : Admissible b chain q) where
     abbrev better : Placement
     better = record { places = q.places; swaps = listed (best_swap q.places) 0 n }
 
     better_swaps : (d : ℕ) → d < n → swap better d ≡ best_swap q.places d
     better_swaps d h = listed_at (best_swap q.places) 0 n d h ∙ ap (best_swap q.places) (let e : 0 + d ≡ d = omega arith in e)
 
-    better_admissible : Admissible b.adders chain better
+    better_admissible : Admissible b chain better
     better_admissible =
-        swapped_otherwise b.adders chain q (listed (best_swap q.places) 0 n) adm (length_listed (best_swap q.places) 0 n ∙ sym adm.each_told)
+        swapped_otherwise b chain q (listed (best_swap q.places) 0 n) adm (length_listed (best_swap q.places) 0 n ∙ sym adm.each_told)
         (λ d a e minus.
         let h = nth_within chain d a e in
         let i = adm.inside d (omega (arith, adm.each_placed)) in
@@ -267,10 +267,10 @@ module _ {L : Type 0} (t : Tables) (law : Lawful t) (b : Block) (chain : Chain) 
         let i = (opened_inside t b chain task is ps best.follows) d h in
         swaps d h ∙ best_minus ps d a i.0 i.1 e m
 
-    pub admissible : Admissible b.adders chain found
+    pub admissible : Admissible b chain found
     admissible = found_admissible t b chain task is ps best.follows ss told minus
 
-    pub is_chosen : (code : ℕ) (after : Block) → code ≤ 15 → row_of b code ≡ None → Placed b code chain found after → Chosen t b code chain found after
+    pub is_chosen : (code : ℕ) (after : Block) → code ≤ 15 → row_of b code ≡ None → Placed b code chain found after → Chosen (block_price t) b code chain found after
     is_chosen code after low idle placed =
         let paid = price_is code idle found admissible swaps after placed in
         record {
@@ -286,7 +286,7 @@ module _ {L : Type 0} (t : Tables) (law : Lawful t) (b : Block) (chain : Chain) 
 
     pub row_chosen : (r : Result Row Refusal) → IsPlaced chain found r → ChosenRow t b chain r
     row_chosen (Ok row) of = (
-      past_block row.slots b.adders (λ k h. used_none row k (within_block b.adders chain found row admissible of.0 (suc k) (omega arith))),
+      past_block row.slots b.adders (λ k h. used_none row k (within_block b chain found row admissible of.0 (suc k) (omega arith))),
       found,
       λ code after low idle w. is_chosen code after low idle (record { row = row; of_chain = of.0; rest = w }),
     )
@@ -294,15 +294,15 @@ module _ {L : Type 0} (t : Tables) (law : Lawful t) (b : Block) (chain : Chain) 
 
   -- the swaps that are told are those of the first places of an array
   pub answered : (m : ℕ) → m ≡ n → (f : Found) → Choice task.count (opens t b chain task is) (rise t b chain task is) (last t b chain task is) m (Some f) → (ss : List Bool) → length ss ≡ 8 → SwapsOf t task f.choices ss
-      → (r : Result Row Refusal) → ((count : ℕ) → count ≤ 8 → Admissible count chain (record { places = f.choices; swaps = take (length f.choices) ss }) → IsPlaced chain (record { places = f.choices; swaps = take (length f.choices) ss }) r) → ChosenRow t b chain r
+      → (r : Result Row Refusal) → ((before : Block) → Admissible before chain (record { places = f.choices; swaps = take (length f.choices) ss }) → IsPlaced chain (record { places = f.choices; swaps = take (length f.choices) ss }) r) → ChosenRow t b chain r
   answered m e f choice ss eight swaps r made =
       let best : Cheapest task.count (opens t b chain task is) (rise t b chain task is) (last t b chain task is) n f.choices = subst (λ i. Cheapest task.count (opens t b chain task is) (rise t b chain task is) (last t b chain task is) i f.choices) e choice.0 in
       let size : length f.choices ≡ n = follows_length t b chain task is n [] f.choices best.follows in
       let told : length (take (length f.choices) ss) ≡ n = omega (arith, length-take (length f.choices) ss, few t b chain task is) in
       let turns : (d : ℕ) → d < n → get_or (take (length f.choices) ss) d false ≡ best_swap f.choices d = λ d h. get_or-take (length f.choices) ss d false (omega arith) ∙ swaps d (omega arith) in
       let ok = admissible f.choices best (take (length f.choices) ss) told turns in
-      row_chosen f.choices best (take (length f.choices) ss) told turns r (made b.adders b.few ok)
+      row_chosen f.choices best (take (length f.choices) ss) told turns r (made b ok)
 
   -- nothing is found only where the block has too few adders
   pub none_found : (m : ℕ) → m ≡ n → ((ps : List ℕ) → Goes t b chain task is m [] ps → ⊥) → b.adders < n
-  none_found m e none = ⊎_elim (λ l. l) (λ more. let x = at_own_numbers b.adders chain more in absurd (none x.0.places (subst (λ i. Goes t b chain task is i [] x.0.places) (sym e) (gone_through t b chain task is x.0 x.1)))) (cases_lt b.adders n)
+  none_found m e none = ⊎_elim (λ l. l) (λ more. let x = at_own_numbers b chain more in absurd (none x.0.places (subst (λ i. Goes t b chain task is i [] x.0.places) (sym e) (gone_through t b chain task is x.0 x.1)))) (cases_lt b.adders n)

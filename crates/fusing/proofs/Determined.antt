@@ -3,8 +3,6 @@ use Rattle.std.proofs.Common.{◌≡◌, ℕ, ◌<◌, Bool, true, false, ◌⊎
 use Rattle.std.proofs.lemmas.Bool.{cases_order}
 use Rattle.chains.specs.declared.model.Chain.{Chain}
 use Rattle.blocks.specs.declared.model.Block.{Block}
-use Rattle.prices.specs.Tables.{Tables}
-use Rattle.pricing.specs.Prices.{block_price}
 use Rattle.search.specs.Choosing.{Lower}
 use Rattle.placing.specs.Placements.{Placement, Placed}
 use Rattle.placing.proofs.Left.{block_one}
@@ -41,7 +39,7 @@ swaps_ordered (r ∷ rs) (s ∷ ss) e = by r s (swaps_ordered rs ss (omega arith
     by false true t = inr (inl (inl (refl, refl)))
     by true false t = inr (inr (inl (refl, refl)))
 
-module _ (t : Tables) (before : Block) (code : ℕ) (chain : Chain) (p q : Placement) (a b : Block) (f : Chosen t before code chain p a) (g : Chosen t before code chain q b) where
+module _ (cost : Block → ℕ) (before : Block) (code : ℕ) (chain : Chain) (p q : Placement) (a b : Block) (f : Chosen cost before code chain p a) (g : Chosen cost before code chain q b) where
   not_before : Before p q → ⊥
   not_before h = omega (arith, g.first p a f.admissible f.placed h, f.least q b g.admissible g.placed)
 
@@ -62,6 +60,6 @@ module _ (t : Tables) (before : Block) (code : ℕ) (chain : Chain) (p q : Place
   one_block = block_one before code chain p f.admissible a b f.placed (subst (λ x. Placed before code chain x b) (sym one_placement) g.placed)
 
 pub determined : FusingIsDetermined
-determined t before code chain m n a b f g =
-    let one = one_block t before code chain f.placement g.placement a b f.chosen g.chosen in
-    (one_placement t before code chain f.placement g.placement a b f.chosen g.chosen, f.priced ∙ ap (block_price t) one ∙ sym g.priced, one)
+determined cost before code chain m n a b f g =
+    let one = one_block cost before code chain f.placement g.placement a b f.chosen g.chosen in
+    (one_placement cost before code chain f.placement g.placement a b f.chosen g.chosen, f.priced ∙ ap cost one ∙ sym g.priced, one)

@@ -63,10 +63,10 @@ module _ {L : Type 0} (t : Tables) (b : Block) (chain : Chain) (task : Task L) (
   abbrev pub Goes : ℕ → List ℕ → List ℕ → Type 0
   Goes = Follows task.count opens rise last
 
-  module _ (p : Placement) (adm : Admissible b.adders chain p) where
+  module _ (p : Placement) (adm : Admissible b chain p) where
     lower : (before : List ℕ) (d j : ℕ) (a : Adder) → ((i : ℕ) → i < d → get_or before i 0 ≡ place p i) → nth_adder chain d ≡ Some a → HasSource a j → j ≤ d → placed_source (at before) j < place p d
-    lower before d zero a g e has low = source_below b.adders chain p adm d a zero e has
-    lower before d (suc i) a g e has low = omega (arith, g i, source_below b.adders chain p adm d a (suc i) e has)
+    lower before d zero a g e has low = source_below b chain p adm d a zero e has
+    lower before d (suc i) a g e has low = omega (arith, g i, source_below b chain p adm d a (suc i) e has)
 
     -- the next place of a placement is open
     open_next : (before : List ℕ) (d : ℕ) → length before ≡ d → d < n → ((i : ℕ) → i < d → get_or before i 0 ≡ place p i) → opens before (place p d) ≡ true
@@ -140,7 +140,7 @@ module _ {L : Type 0} (t : Tables) (b : Block) (chain : Chain) (task : Task L) (
         (λ r. omega (arith, get_or-take d ps c 0, low.1, r, ltb-true (get_or (take d ps) c 0) q (ap (λ j. ltb (placed_source (at (take d ps)) j) q) (sym r) ∙ two.1)))
         has
 
-    pub found_admissible : Admissible b.adders chain (record { places = ps; swaps = ss })
+    pub found_admissible : Admissible b chain (record { places = ps; swaps = ss })
     found_admissible = record {
       each_placed = size;
       each_told = told;

@@ -35,7 +35,7 @@ use Rattle.fusing.specs.Fusing.{Chosen}
 use Rattle.fusing.specs.Swaps.{as_it_is, InPlaceStays}
 use Rattle.fusing.proofs.Swaps.{kept_own, kept_other, kept_admissible, swaps_pay}
 
-module _ (t : Tables) (law : Lawful t) (before : Block) (code : ℕ) (chain : Chain) (p : Placement) (d : ℕ) (after other : Block) (idle : row_of before code ≡ None) (c : Chosen t before code chain p after) (as_is : Placed before code chain (as_it_is d p) other) where
+module _ (t : Tables) (law : Lawful t) (before : Block) (code : ℕ) (chain : Chain) (p : Placement) (d : ℕ) (after other : Block) (idle : row_of before code ≡ None) (c : Chosen (block_price t) before code chain p after) (as_is : Placed before code chain (as_it_is d p) other) where
   abbrev q : Placement
   q = as_it_is d p
 
@@ -48,12 +48,12 @@ module _ (t : Tables) (law : Lawful t) (before : Block) (code : ℕ) (chain : Ch
   abbrev w : ℕ
   w = before.width
 
-  ok : Admissible before.adders chain q
-  ok = kept_admissible before.adders chain p d c.admissible
+  ok : Admissible before chain q
+  ok = kept_admissible before chain p d c.admissible
 
   -- both rows have the chain's values
   same_value : (j : ℕ) → j ≤ length (chain_adders chain) → value s.slots (placed_source p j) ≡ value r.slots (placed_source p j)
-  same_value j h = value_placed chain q s as_is.of_chain before.adders ok j h ∙ sym (value_placed chain p r c.placed.of_chain before.adders c.admissible j h)
+  same_value j h = value_placed chain q s as_is.of_chain before ok j h ∙ sym (value_placed chain p r c.placed.of_chain before c.admissible j h)
 
   same_operand : (o : Operand) → o.source ≤ length (chain_adders chain) → valued_operand s (placed_operand p o) ≡ valued_operand r (placed_operand p o)
   same_operand o h = let v = same_value o.source h in λ i. record { operand = placed_operand p o; bits = bits (v i * 2 ^ o.shift) }
@@ -149,7 +149,7 @@ module _ (t : Tables) (law : Lawful t) (before : Block) (code : ℕ) (chain : Ch
 
   stays : InPlace s before (Left (place p d)) → InPlace s before (Right (place p d)) → (turn : Bool) → swap p d ≡ turn → swap p d ≡ false
   stays l k false e = e
-  stays l k true e = absurd (omega (arith, no_dearer l k e, swaps_pay t before code chain p d after other c e as_is))
+  stays l k true e = absurd (omega (arith, no_dearer l k e, swaps_pay (block_price t) before code chain p d after other c e as_is))
 
 pub in_place_stays : InPlaceStays
 in_place_stays t before code chain p d after other law idle c as_is l k = stays t law before code chain p d after other idle c as_is l k (swap p d) refl

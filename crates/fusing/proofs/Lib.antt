@@ -4,5 +4,6 @@ mod Parts
 mod Following
 mod Choosing
 pub mod Determined
+pub mod Books
 mod Swaps
 mod InPlace

@@ -54,7 +54,7 @@ module _ {L : Type 0} (t : Tables) (b : Block) (chain : Chain) (task : Task L) (
   row_value : (j : ℕ) → j ≤ n → value is.row.slots j ≡ value (wired (chain_adders chain)) j
   row_value j h = ap (λ xs. value xs j) is.of_chain.slots ∙ same_value (chain_adders chain) chain.shift (chain_keeps chain) j h
 
-  module _ (p : Placement) (adm : Admissible b.adders chain p) (row : Row) (of : PlacedRow chain p row) where
+  module _ (p : Placement) (adm : Admissible b chain p) (row : Row) (of : PlacedRow chain p row) where
     -- the first d places are those of p
     abbrev pub Agrees : List ℕ → ℕ → Type 0
     Agrees before d = (i : ℕ) → i < d → get_or before i 0 ≡ place p i
@@ -66,7 +66,7 @@ module _ {L : Type 0} (t : Tables) (b : Block) (chain : Chain) (task : Task L) (
     same_operand : (before : List ℕ) (d : ℕ) (o : Operand) → Agrees before d → o.source ≤ d → d ≤ n → valued_operand row (placed_operand p o) ≡ moved before (valued_operand is.row o)
     same_operand before d o g h within =
         let e = same_source before d o.source g h in
-        let v = value_placed chain p row of b.adders adm o.source (omega arith) ∙ sym (row_value o.source (omega arith)) in
+        let v = value_placed chain p row of b adm o.source (omega arith) ∙ sym (row_value o.source (omega arith)) in
         λ i. record { operand = record { source = e i; shift = o.shift }; bits = bits (v i * 2 ^ o.shift) }
 
     -- an adder's sides at its place, whichever way round
@@ -82,7 +82,7 @@ module _ {L : Type 0} (t : Tables) (b : Block) (chain : Chain) (task : Task L) (
         same_sides (place p d) a s (moved before (valued_operand is.row a.left)) (moved before (valued_operand is.row a.right)) (bits (value is.row.slots (suc d)))
         (same_operand before d a.left g low.0 (omega arith))
         (same_operand before d a.right g low.1 (omega arith))
-        (ap bits (value_placed chain p row of b.adders adm (suc d) (omega arith) ∙ sym (row_value (suc d) (omega arith))))
+        (ap bits (value_placed chain p row of b adm (suc d) (omega arith) ∙ sym (row_value (suc d) (omega arith))))
 
     module _ (code : ℕ) (after : Block) (idle : row_of b code ≡ None) (w : Rewritten b code (Some row) after) where
       -- an adder that the chain stands at

@@ -1,8 +1,9 @@
 -- A swap pays.
-use Rattle.std.proofs.Common.{◌≡◌, ℕ, zero, suc, ◌<◌, ◌≢◌, Bool, true, false, List, [], ◌∷◌, length, get_or, refl, sym, ap, ◌∙◌, inl, inr}
+pub use Rattle.std.proofs.Common.{◌≡◌, ℕ, zero, suc, Bool, true, false, List, [], ◌∷◌, length, get_or, refl, ap, ◌∙◌, inl, inr}
 use Rattle.std.proofs.lemmas.Bool.{false≢true}
 use Rattle.placing.specs.Placements.{Placement, Admissible}
 use Rattle.chains.specs.declared.model.Chain.{Chain}
+use Rattle.blocks.specs.declared.model.Block.{Block}
 use Rattle.fusing.specs.Fusing.{Unswapped}
 use Rattle.fusing.specs.Swaps.{kept_at, as_it_is, SwapsPay}
 
@@ -35,8 +36,8 @@ kept_before d [] h = absurd (false≢true h)
 kept_before zero (s ∷ ss) h = inl (refl, h)
 kept_before (suc d) (s ∷ ss) h = inr (refl, kept_before d ss h)
 
-pub kept_admissible : (count : ℕ) (chain : Chain) (p : Placement) (d : ℕ) → Admissible count chain p → Admissible count chain (as_it_is d p)
-kept_admissible count chain p d a = record {
+pub kept_admissible : (before : Block) (chain : Chain) (p : Placement) (d : ℕ) → Admissible before chain p → Admissible before chain (as_it_is d p)
+kept_admissible before chain p d a = record {
   each_placed = a.each_placed;
   each_told = kept_length d p.swaps ∙ a.each_told;
   inside = a.inside;
@@ -46,5 +47,5 @@ kept_admissible count chain p d a = record {
 }
 
 pub swaps_pay : SwapsPay
-swaps_pay t before code chain p d after other c turned placed =
-    c.first (as_it_is d p) other (kept_admissible before.adders chain p d c.admissible) placed (inr (refl, kept_before d p.swaps turned))
+swaps_pay cost before code chain p d after other c turned placed =
+    c.first (as_it_is d p) other (kept_admissible before chain p d c.admissible) placed (inr (refl, kept_before d p.swaps turned))

@@ -1,7 +1,9 @@
 -- Fusing a chain at an idle code: the cheapest placement, and of several that cost as little the first.
---   t        the two tables of a price list
---   before   the block before, after the block after
---   p, q     placements of the chain
+--   cost        what a block costs
+--   before      the block before, after the block after
+--   p, q        placements of the chain
+--   count       how many adders there are
+--   constants   what each code multiplies by, or nothing where it is idle
 use Rattle.std.specs.Prelude.{◌≡◌, ℕ, ◌<◌, ◌≤◌, Bool, true, false, not, ◌⊎◌, List, [], ◌∷◌, ◌++◌, length, is_some, None, Option, Result, nat_le}
 use Rattle.adders.specs.declared.refusals.Refusal.{Refusal}
 use Rattle.adders.specs.declared.refusals.Refusal.TheVariants.{CodeLive, BlockTooSmall}
@@ -10,9 +12,7 @@ use Rattle.chains.specs.declared.model.Chain.{Chain}
 use Rattle.chains.specs.Chains.{chain_adders}
 use Rattle.tables.specs.Tables.{code_rules}
 use Rattle.blocks.specs.declared.model.Block.{Block}
-use Rattle.blocks.specs.Blocks.{row_of}
-use Rattle.prices.specs.Tables.{Tables}
-use Rattle.pricing.specs.Prices.{block_price}
+use Rattle.blocks.specs.Blocks.{row_of, constant_at}
 use Rattle.search.specs.Choosing.{Lower}
 use Rattle.placing.specs.Placements.{Placement, Admissible, Placed}
 
@@ -27,21 +27,21 @@ abbrev pub Before : Placement → Placement → Type 0
 Before q p = Lower q.places p.places ⊎ ((q.places ≡ p.places) × Unswapped q.swaps p.swaps)
 
 -- Of all admissible placements none would have left a block that costs less, and none that comes before this one a block that costs as little.
-pub record Chosen (t : Tables) (before : Block) (code : ℕ) (chain : Chain) (p : Placement) (after : Block) : Type 0 where
-  pub admissible : Admissible before.adders chain p
+pub record Chosen (cost : Block → ℕ) (before : Block) (code : ℕ) (chain : Chain) (p : Placement) (after : Block) : Type 0 where
+  pub admissible : Admissible before chain p
   pub placed : Placed before code chain p after
-  pub least : (q : Placement) (other : Block) → Admissible before.adders chain q → Placed before code chain q other → block_price t after ≤ block_price t other
-  pub first : (q : Placement) (other : Block) → Admissible before.adders chain q → Placed before code chain q other → Before q p → block_price t after < block_price t other
+  pub least : (q : Placement) (other : Block) → Admissible before chain q → Placed before code chain q other → cost after ≤ cost other
+  pub first : (q : Placement) (other : Block) → Admissible before chain q → Placed before code chain q other → Before q p → cost after < cost other
 
 -- what fusing leaves and answers: the block's new price
-pub record Fused (t : Tables) (before : Block) (code : ℕ) (chain : Chain) (price : ℕ) (after : Block) : Type 0 where
+pub record Fused (cost : Block → ℕ) (before : Block) (code : ℕ) (chain : Chain) (price : ℕ) (after : Block) : Type 0 where
   pub placement : Placement
-  pub chosen : Chosen t before code chain placement after
-  pub priced : price ≡ block_price t after
+  pub chosen : Chosen cost before code chain placement after
+  pub priced : price ≡ cost after
 
--- a code of the sixteen, then one with nothing there, then a chain with no more adders than the block
-abbrev pub fusing_rules : {A : Type 0} → Option A → ℕ → Chain → ℕ → List Rule
-fusing_rules row count chain code = code_rules code ++ rule (not (is_some row)) CodeLive ∷ rule (nat_le (length (chain_adders chain)) count) BlockTooSmall ∷ []
+-- A code of the sixteen, then one with nothing there, then a chain with no more adders than there are. All of it is asked of what a block and a plain book both show.
+abbrev pub fusing_rules : ℕ → (ℕ → Option ℕ) → Chain → ℕ → List Rule
+fusing_rules count constants chain code = code_rules code ++ rule (not (is_some (constants code))) CodeLive ∷ rule (nat_le (length (chain_adders chain)) count) BlockTooSmall ∷ []
 
 -- there is an idle code of this number, and the block has no fewer adders than the chain
 pub record Fusable (before : Block) (number : ℕ) (chain : Chain) : Type 0 where
@@ -50,9 +50,9 @@ pub record Fusable (before : Block) (number : ℕ) (chain : Chain) : Type 0 wher
   pub enough : length (chain_adders chain) ≤ before.adders
 
 -- What the rules say of one fusing, its answer and the block after it.
-abbrev pub Fusing : Tables → Chain → ℕ → Block → Result ℕ Refusal → Block → Type 0
-Fusing t chain code before r after = Changed (fusing_rules (row_of before code) before.adders chain code) before (λ price b. Fused t before code chain price b) r after
+abbrev pub Fusing : (Block → ℕ) → Chain → ℕ → Block → Result ℕ Refusal → Block → Type 0
+Fusing cost chain code before r after = Changed (fusing_rules before.adders (constant_at before) chain code) before (λ price b. Fused cost before code chain price b) r after
 
 -- the placement, the answer and the block are determined
 abbrev pub FusingIsDetermined : Type 0
-FusingIsDetermined = (t : Tables) (before : Block) (code : ℕ) (chain : Chain) (m n : ℕ) (a b : Block) → (f : Fused t before code chain m a) → (g : Fused t before code chain n b) → (f.placement ≡ g.placement) × (m ≡ n) × (a ≡ b)
+FusingIsDetermined = (cost : Block → ℕ) (before : Block) (code : ℕ) (chain : Chain) (m n : ℕ) (a b : Block) → (f : Fused cost before code chain m a) → (g : Fused cost before code chain n b) → (f.placement ≡ g.placement) × (m ≡ n) × (a ≡ b)

@@ -1,3 +1,4 @@
 pub mod Fusing
+pub mod Books
 pub mod Tasks
 pub mod Swaps

@@ -1,6 +1,7 @@
 -- When an adder is swapped.
---   d   an adder of the chain, counted from 0
---   p   a placement
+--   cost   what a block costs
+--   d      an adder of the chain, counted from 0
+--   p      a placement
 use Rattle.std.specs.Prelude.{◌≡◌, ℕ, zero, suc, ◌<◌, Bool, true, false, List, [], ◌∷◌, None}
 use Rattle.chains.specs.declared.model.Chain.{Chain}
 use Rattle.blocks.specs.declared.model.Block.{Block}
@@ -23,7 +24,12 @@ as_it_is d p = record { places = p.places; swaps = kept_at d p.swaps }
 
 -- a swap pays: with that adder alone as it is, the block would cost more
 abbrev pub SwapsPay : Type 0
-SwapsPay = (t : Tables) (before : Block) (code : ℕ) (chain : Chain) (p : Placement) (d : ℕ) (after other : Block) → Chosen t before code chain p after → swap p d ≡ true → Placed before code chain (as_it_is d p) other → block_price t after < block_price t other
+SwapsPay =
+    (cost : Block → ℕ) (before : Block) (code : ℕ) (chain : Chain) (p : Placement) (d : ℕ) (after other : Block)
+    → Chosen cost before code chain p after
+    → swap p d ≡ true
+    → Placed before code chain (as_it_is d p) other
+    → cost after < cost other
 
 -- an adder both of whose operands are in place as it is, and so add nothing at their ports, is not swapped, under any lawful list
 abbrev pub InPlaceStays : Type 0
@@ -31,7 +37,7 @@ InPlaceStays =
     (t : Tables) (before : Block) (code : ℕ) (chain : Chain) (p : Placement) (d : ℕ) (after other : Block)
     → Lawful t
     → row_of before code ≡ None
-    → Chosen t before code chain p after
+    → Chosen (block_price t) before code chain p after
     → (as_is : Placed before code chain (as_it_is d p) other)
     → InPlace as_is.row before (Left (place p d))
     → InPlace as_is.row before (Right (place p d))

@@ -14,6 +14,7 @@ use Rattle.blocks.specs.Blocks.{row_of, Rewritten}
 use Rattle.blocks.specs.Filling.{uses_none_past}
 use Rattle.ports.specs.declared.port.Port.TheVariants.{Output}
 use Rattle.prices.specs.Tables.{Tables}
+use Rattle.pricing.specs.Prices.{block_price}
 use Rattle.rises.specs.declared.held.HeldAdder.{HeldAdder}
 use Rattle.rises.specs.declared.held.Way.{Way}
 use Rattle.rises.specs.declared.uses.ValuedAdder.{ValuedAdder}
@@ -83,5 +84,5 @@ SwapsOf t task ps ss = (d : ℕ) → d < length ps → slice_index_or ss d false
 
 -- the row that is chosen for the chain, at whatever idle code it is put; there is one where the block has adders enough
 abbrev pub ChosenRow : Tables → Block → Chain → Result Row Refusal → Type 0
-ChosenRow t b chain (Ok row) = (uses_none_past b.adders row ≡ true) × (p : Placement) × ((code : ℕ) (after : Block) → code ≤ 15 → row_of b code ≡ None → Rewritten b code (Some row) after → Chosen t b code chain p after)
+ChosenRow t b chain (Ok row) = (uses_none_past b.adders row ≡ true) × (p : Placement) × ((code : ℕ) (after : Block) → code ≤ 15 → row_of b code ≡ None → Rewritten b code (Some row) after → Chosen (block_price t) b code chain p after)
 ChosenRow t b chain (Err e) = b.adders < length (chain_adders chain)

@@ -1,9 +1,12 @@
 // Fusing a chain at an idle code.
-ghost use Rattle.std.specs.Prelude.{◌≡◌, is_ok, Decides};
+ghost use Rattle.std.specs.Prelude.{◌≡◌, ℕ, ◌≢◌, Some, is_ok, IfOk, Decides};
 ghost use Rattle.adders.specs.Rules.{Tried};
-ghost use Rattle.blocks.specs.Blocks.{row_of};
+ghost use Rattle.chains.specs.Chains.{chain_constant};
+ghost use Rattle.blocks.specs.Blocks.{constant_at};
 ghost use Rattle.prices.specs.Tables.{tables};
+ghost use Rattle.pricing.specs.Prices.{block_price};
 ghost use Rattle.fusing.specs.Fusing.{Fusing, Fusable, fusing_rules};
+ghost use Rattle.fusing.specs.Books.{FollowsBook};
 ghost use Rattle.fusing.specs.Tasks.{ChosenRow};
 
 use crate::task::Task;
@@ -17,8 +20,10 @@ use rows::Row;
 use search::cheapest;
 
 // The first cause to turn a fusing down.
+#[tactic(auto, using(crate::proofs::Books::same_live))]
 fn tried(block: &Block, chain: &Chain, code: usize) -> Result<(), Refusal>
-    ensures { Tried (fusing_rules (row_of block.now code) block.now.adders chain.now code) tt result }
+    ensures { Tried
+        (fusing_rules block.now.adders (constant_at block.now) chain.now code) tt result }
 {
     match block.row(code) {
         Ok(_) => Err(Refusal::CodeLive),
@@ -48,8 +53,14 @@ pub fn fuse<L: PriceList>(
     code: usize,
     list: &L,
 ) -> Result<u32, Refusal>
-    ensures answer { Fusing (tables (L.PriceList.adders list.now) (L.PriceList.muxes list.now)) chain.now code block.old result block.new }
+    ensures answer { let t = tables (L.PriceList.adders list.now) (L.PriceList.muxes list.now) in
+        Fusing (block_price t) chain.now code block.old result block.new }
     ensures exactly { Decides (is_ok result) (Fusable block.old code chain.now) }
+    ensures constant { IfOk result
+        (λ _. constant_at block.new code ≡ Some (chain_constant chain.now)) }
+    ensures others { (k : ℕ) → k ≢ code → constant_at block.new k ≡ constant_at block.old k }
+    ensures size { (block.new.adders ≡ block.old.adders) × (block.new.width ≡ block.old.width) }
+    ensures book { FollowsBook chain.now code block.old result block.new }
 {
     tried(block, chain, code)?;
     let row = cheapest_row(block, chain, list)?;

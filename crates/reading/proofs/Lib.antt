@@ -7,3 +7,4 @@ pub mod RowRules
 pub mod Staged
 pub mod RowByRow
 pub mod Selected
+pub mod Allowed

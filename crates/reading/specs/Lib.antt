@@ -5,3 +5,4 @@ pub mod Repeats
 pub mod Lookup
 pub mod Reader
 pub mod Answers
+pub mod Limits

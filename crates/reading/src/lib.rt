@@ -2,8 +2,10 @@
 #![tactic(auto)]
 
 mod codes;
+mod laws;
 mod limits;
 mod lists;
 mod reader;
 
+pub use laws::limits_are_tested;
 pub use reader::read_block;

@@ -1,7 +1,5 @@
 -- How many inputs a port has.
-use Rattle.std.proofs.Common.{◌≡◌, ℕ, zero, suc, ◌≤◌, true, ◌&&◌, List, [], ◌∷◌, length, map, get_or, Some, None, sym, refl, ap, ◌∙◌, inl, inr, ⊎_elim, leb, arith}
-use Rattle.std.specs.List.{list_all}
-use Rattle.std.proofs.lemmas.Bool.{le-leb, lt-ltb}
+use Rattle.std.proofs.Common.{◌≡◌, ℕ, zero, suc, ◌≤◌, List, [], ◌∷◌, length, map, get_or, Some, None, sym, refl, ap, ◌∙◌, inl, inr, ⊎_elim, arith}
 use Rattle.adders.specs.declared.wiring.Operand.{Operand}
 use Rattle.adders.proofs.Broken.{some_none}
 use Rattle.blocks.specs.declared.model.Block.{Block}
@@ -12,7 +10,7 @@ use Rattle.ports.proofs.Ascending.{by_order, different_ascend, put_has, has_put,
 use Rattle.texts.specs.Text.{AllSmall}
 use Rattle.texts.proofs.Takes.{some_is}
 use Rattle.reading.specs.Repeats.{Once}
-use Rattle.reading.specs.Reader.{bound, allowed, within_limits}
+use Rattle.reading.specs.Limits.{InLimits}
 use Rattle.sheetlaws.specs.Sheets.{InputsInOrder}
 use Rattle.sheetlaws.proofs.Rowed.{put_there}
 
@@ -47,15 +45,8 @@ module _ (b : Block) (p : Port) (os : List Operand) (h : InputsInOrder b p os) w
   pub few_inputs : length os ≤ 16
   few_inputs = let same = ap length (inputs_law.alone b p (different (map Some os)) sorted) in omega (arith, sorted_length os h.once, inputs_law.few b p, same)
 
-  each_allowed : (us : List Operand) → ((o : Operand) → Among o us → Among o os) → list_all (allowed (bound b.adders p)) us ≡ true
-  each_allowed [] f = refl
-  each_allowed (u ∷ us) f =
-      let t = put_there b p u (h.only u (f u (inl refl))) in
-      ap (λ c. (c && leb u.shift 30) && list_all (allowed (bound b.adders p)) us) (lt-ltb u.source (bound b.adders p) t.lower) ∙ ap (λ c. c && list_all (allowed (bound b.adders p)) us) (le-leb u.shift 30 t.shift)
-      ∙ each_allowed us (λ o k. f o (inr k))
-
-  pub in_limits : within_limits (bound b.adders p) os ≡ true
-  in_limits = ap (λ c. c && list_all (allowed (bound b.adders p)) os) (le-leb (length os) 16 few_inputs) ∙ each_allowed os (λ o k. k)
+  pub in_limits : InLimits b.adders p os
+  in_limits = record { few = few_inputs; sources = λ o m. (put_there b p o (h.only o m)).lower; shifts = λ o m. (put_there b p o (h.only o m)).shift }
 
   each_small : (us : List Operand) → ((o : Operand) → Among o us → Among o os) → AllSmall us
   each_small [] f = tt

@@ -18,7 +18,7 @@ use Rattle.ports.specs.Ports.{ports_from, nth_port, put_at}
 use Rattle.ports.specs.Inputs.{Selected}
 use Rattle.ports.proofs.Sides.{left_is, right_is}
 use Rattle.texts.proofs.Takes.{some_is}
-use Rattle.reading.specs.Reader.{bound}
+use Rattle.reading.specs.Limits.{MayRead}
 use Rattle.sheetlaws.proofs.RowsRead.{slot_is}
 
 -- the ports of an adder that the block has
@@ -37,7 +37,7 @@ output_there (suc n) j = let e : 2 * suc n ≡ suc (suc (2 * n)) = omega arith i
 -- an operand that a live row puts at a port
 pub record PutThere (b : Block) (p : Port) (o : Operand) : Type 0 where
   pub listed : (k : ℕ) × (k < 2 * b.adders + 1) × (nth_port b.adders k ≡ p)
-  pub lower : o.source < bound b.adders p
+  pub lower : MayRead b.adders p o.source
   pub low : o.source ≤ 8
   pub shift : o.shift ≤ 30
 
@@ -58,23 +58,23 @@ module _ (b : Block) (code : ℕ) (r : Row) (here : row_of b code ≡ Some r) wh
           omega (arith, within (suc k) (ap is_some (slot_is r.slots k) ∙ used))
 
   -- at one side of an adder
-  side : (j : ℕ) (p : Port) → bound b.adders p ≡ j → ((k : ℕ) × (k < 2 * b.adders + 1) × (nth_port b.adders k ≡ p)) → (x : Adder) → There r j x → (o : Operand) → SoundOperand r.slots (suc (j - 1)) o → PutThere b p o
-  side j p same listed x t o s = record { listed = listed; lower = omega (arith, s.lower, t.low, same); low = omega (arith, s.lower, t.low, t.high); shift = s.shift }
+  side : (j : ℕ) (p : Port) → ((s : ℕ) → s < j → MayRead b.adders p s) → ((k : ℕ) × (k < 2 * b.adders + 1) × (nth_port b.adders k ≡ p)) → (x : Adder) → There r j x → (o : Operand) → SoundOperand r.slots (suc (j - 1)) o → PutThere b p o
+  side j p reads listed x t o s = record { listed = listed; lower = reads o.source (omega (arith, s.lower, t.low)); low = omega (arith, s.lower, t.low, t.high); shift = s.shift }
 
   put : (p : Port) (o : Operand) → put_at (Some r) p ≡ Some o → PutThere b p o
   put (Left j) o e =
       let x = left_is (adder_at r j) o e in
       let t = there r j x.0 x.1 in
       let few = within j (ap is_some x.1) in
-      subst (PutThere b (Left j)) x.2 (side j (Left j) refl (sides_there b.adders 1 j t.low (omega arith)).0 x.0 t x.0.left ((row_keeps r).adders (j - 1) x.0 t.slot).left)
+      subst (PutThere b (Left j)) x.2 (side j (Left j) (λ s l. l) (sides_there b.adders 1 j t.low (omega arith)).0 x.0 t x.0.left ((row_keeps r).adders (j - 1) x.0 t.slot).left)
   put (Right j) o e =
       let x = right_is (adder_at r j) o e in
       let t = there r j x.0 x.1 in
       let few = within j (ap is_some x.1) in
-      subst (PutThere b (Right j)) x.2 (side j (Right j) refl (sides_there b.adders 1 j t.low (omega arith)).1 x.0 t x.0.right ((row_keeps r).adders (j - 1) x.0 t.slot).right)
+      subst (PutThere b (Right j)) x.2 (side j (Right j) (λ s l. l) (sides_there b.adders 1 j t.low (omega arith)).1 x.0 t x.0.right ((row_keeps r).adders (j - 1) x.0 t.slot).right)
   put Output o e =
       subst (PutThere b Output) (some_is r.output o e)
-      (record { listed = (2 * b.adders, omega arith, output_there b.adders 1); lower = omega (arith, output_within); low = omega (arith, (row_keeps r).source, r.room); shift = (row_keeps r).shift })
+      (record { listed = (2 * b.adders, omega arith, output_there b.adders 1); lower = output_within; low = omega (arith, (row_keeps r).source, r.room); shift = (row_keeps r).shift })
 
 pub put_there : (b : Block) (p : Port) (o : Operand) → Selected b p o → PutThere b p o
 put_there b p o s = by (row_of b s.0) refl s.1

@@ -67,7 +67,7 @@ selections_back orders j m (e ∷ es) slots once h =
     ap (λ s. selections_of orders j (take (length (e ∷ es)) s)) (sym (some_is (a.0 ∷ b.0) slots b.2)) ∙ (λ i. first i ∷ others i)
 
 -- an adder of the row was wired by a selection
-slots_wired : (orders : Orders) (j k : ℕ) (xs : List (Option Selection)) (slots : Slots) (x : Adder) → slots_of orders j xs ≡ Some slots → get_or slots k None ≡ Some x → (s : Selection) × (wired orders (j + k) s ≡ Some x)
+pub slots_wired : (orders : Orders) (j k : ℕ) (xs : List (Option Selection)) (slots : Slots) (x : Adder) → slots_of orders j xs ≡ Some slots → get_or slots k None ≡ Some x → (s : Selection) × (wired orders (j + k) s ≡ Some x)
 unfolding slots_of
 slots_wired orders j k [] slots x h g = absurd (some_none (sym (ap (λ ys. get_or ys k None) (some_is [] slots h) ∙ g)))
 slots_wired orders j k (e ∷ es) slots x h g =

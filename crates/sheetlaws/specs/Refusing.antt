@@ -18,7 +18,8 @@ use Rattle.reading.specs.Orders.{Orders}
 use Rattle.reading.specs.Data.{RowData}
 use Rattle.reading.specs.Repeats.{Once, FirstRepeat}
 use Rattle.reading.specs.Lookup.{row_data}
-use Rattle.reading.specs.Reader.{bound, within_limits, fault_of, all_selected}
+use Rattle.reading.specs.Limits.{InLimits}
+use Rattle.reading.specs.Reader.{fault_of, all_selected}
 use Rattle.sheetlaws.specs.Sheets.{port_lines}
 
 -- The line of a key and a number: the text does not begin with one, or the number is not from low to high.
@@ -29,13 +30,13 @@ pub data NumberFault (key : List ℕ) (low high n : ℕ) (text : List ℕ) : Ref
 -- The line of a port: the text does not begin with one, or an input or their count is past its limits, or an input comes twice.
 pub data PortFault (a n : ℕ) (p : Port) (text : List ℕ) : Refusal → Type 0 where
   form : ((os : List Operand) (rest : List ℕ) → AllSmall os → text ≢ port_line p os ++ rest) → PortFault a n p text (SheetForm n)
-  limit : (os : List Operand) (rest : List ℕ) → AllSmall os → text ≡ port_line p os ++ rest → within_limits (bound a p) os ≡ false → PortFault a n p text (SheetLimit n)
-  repeat : (os : List Operand) (rest : List ℕ) (i j : ℕ) → AllSmall os → text ≡ port_line p os ++ rest → within_limits (bound a p) os ≡ true → FirstRepeat os i j → PortFault a n p text (InputRepeated n)
+  limit : (os : List Operand) (rest : List ℕ) → AllSmall os → text ≡ port_line p os ++ rest → (InLimits a p os → ⊥) → PortFault a n p text (SheetLimit n)
+  repeat : (os : List Operand) (rest : List ℕ) (i j : ℕ) → AllSmall os → text ≡ port_line p os ++ rest → InLimits a p os → FirstRepeat os i j → PortFault a n p text (InputRepeated n)
 
 -- no cause is met at it
 pub record PortFine (a : ℕ) (p : Port) (os : List Operand) : Type 0 where
   pub small : AllSmall os
-  pub limits : within_limits (bound a p) os ≡ true
+  pub limits : InLimits a p os
   pub once : Once os
 
 -- the text begins with the line of a code: an entry for each adder, each number of two digits at most

@@ -3,4 +3,4 @@
 
 mod laws;
 
-pub use laws::{faults_are_carried, refusals_are_told, sheets_are_read};
+pub use laws::{faults_are_carried, faults_are_of_the_block, refusals_are_told, sheets_are_read};

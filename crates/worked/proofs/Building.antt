@@ -9,6 +9,7 @@ use Rattle.rows.specs.declared.model.Row.{Row}
 use Rattle.rows.specs.Rows.{constant_of, RowOf}
 use Rattle.rows.proofs.Answering.{same_row}
 use Rattle.blocks.specs.declared.model.Block.{Block}
+use Rattle.blocks.specs.Blocks.{constant_at}
 use Rattle.blocks.specs.Filling.{uses_none_past}
 use Rattle.prices.specs.Supplied.{count_list}
 use Rattle.pricing.specs.Prices.{block_price}
@@ -49,7 +50,7 @@ module _ (a w : ℕ) (few : a ≤ 8) (some : 1 ≤ w) (most : w ≤ 32) (r : Row
   left = pair a w few some most r fits_r s fits_s
 
   -- wherever the chain stands so that its row is this one
-  pub no_cheaper : (n : ℕ) → n ≤ block_price count_list left → (c q : Placement) → s.slots ≡ placed_slots c (chain_adders second) → s.output ≡ placed_output c second → c ≡ q → (other : Block) → Admissible a second q → Placed before 1 second q other → n ≤ block_price count_list other
+  pub no_cheaper : (n : ℕ) → n ≤ block_price count_list left → (c q : Placement) → s.slots ≡ placed_slots c (chain_adders second) → s.output ≡ placed_output c second → c ≡ q → (other : Block) → Admissible before second q → Placed before 1 second q other → n ≤ block_price count_list other
   no_cheaper n h c q slots output e other adm of =
       subst (λ b. n ≤ block_price count_list b)
       (sym (is_left a w few some most r fits_r s fits_s second q adm (slots ∙ ap (λ x. placed_slots x (chain_adders second)) e) (output ∙ ap (λ x. placed_output x second) e) other of)) h
@@ -58,22 +59,22 @@ module _ (a w : ℕ) (few : a ≤ 8) (some : 1 ≤ w) (most : w ≤ 32) (r : Row
   p = own_numbers (length (chain_adders second))
 
   module _ (enough : length (chain_adders second) ≤ a) (slots : s.slots ≡ placed_slots p (chain_adders second)) (output : s.output ≡ placed_output p second)
-      (forced : (q : Placement) → Admissible a second q → q.places ≡ p.places)
-      (least : (q : Placement) (other : Block) → Admissible a second q → Placed before 1 second q other → block_price count_list left ≤ block_price count_list other) where
-    chosen : Chosen count_list before 1 second p left
+      (forced : (q : Placement) → Admissible before second q → q.places ≡ p.places)
+      (least : (q : Placement) (other : Block) → Admissible before second q → Placed before 1 second q other → block_price count_list left ≤ block_price count_list other) where
+    chosen : Chosen (block_price count_list) before 1 second p left
     chosen = record {
-      admissible = own_admissible a second enough;
-      placed = placed a w few some most r fits_r s fits_s second p (own_admissible a second enough) slots output;
+      admissible = own_admissible before second enough;
+      placed = placed a w few some most r fits_r s fits_s second p (own_admissible before second enough) slots output;
       least = least;
       first = λ q other h _ b. absurd (not_before q h b);
     }
       where
-        not_before : (q : Placement) → Admissible a second q → Before q p → ⊥
+        not_before : (q : Placement) → Admissible before second q → Before q p → ⊥
         not_before q h (inl l) = never_lower p.places (subst (λ ps. Lower ps p.places) (forced q h) l)
         not_before q h (inr u) = none_before q.swaps (length (chain_adders second)) u.1
 
-    module _ (first : Chain) (adders : a ≡ length (chain_adders first)) (of_first : RowOf first r) (constant : constant_of r ≡ chain_constant first) (fusable : first_broken (fusing_rules {A = Row} None a second 1) ≡ None) where
-      fused : Fused count_list before 1 second (block_price count_list left) left
+    module _ (first : Chain) (adders : a ≡ length (chain_adders first)) (of_first : RowOf first r) (constant : constant_of r ≡ chain_constant first) (fusable : first_broken (fusing_rules a (constant_at before) second 1) ≡ None) where
+      fused : Fused (block_price count_list) before 1 second (block_price count_list left) left
       fused = record { placement = p; chosen = chosen; priced = refl }
 
       pub built : Built first second w left
@@ -89,7 +90,7 @@ module _ (a w : ℕ) (few : a ≤ 8) (some : 1 ≤ w) (most : w ≤ 32) (r : Row
           let f = u.founded in
           let same : f.row ≡ r = same_of first f.row r f.of_chain of_first in
           let e : u.before ≡ before = is_alone a w few some most r fits_r u.before (f.adders ∙ sym adders) f.width (f.there ∙ ap Some same) f.others in
-          (determined count_list before 1 second u.price (block_price count_list left) b left (subst (λ x. Fused count_list x 1 second u.price b) e u.fused.1) fused).2
+          (determined (block_price count_list) before 1 second u.price (block_price count_list left) b left (subst (λ x. Fused (block_price count_list) x 1 second u.price b) e u.fused.1) fused).2
 
       module _ (of_second : RowOf second s) where
         left_rows : TwoRows first second w left

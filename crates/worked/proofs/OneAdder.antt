@@ -46,20 +46,20 @@ abbrev placed_at : Bool → Row
 placed_at false = laid (placed_slots (at false) (chain_adders second)) (placed_output (at false) second) refl refl
 placed_at true = laid (placed_slots (at true) (chain_adders second)) (placed_output (at true) second) refl refl
 
--- there is one place, and the operands may be swapped
-forced : (q : Placement) → Admissible 1 second q → (s : Bool) × (q ≡ at s)
-forced q adm = by q.places q.swaps adm.each_placed adm.each_told adm.inside
-  where
-    by : (ps : List ℕ) (ss : List Bool) → length ps ≡ 1 → length ss ≡ 1 → ((d : ℕ) → d < length ps → (1 ≤ get_or ps d 0) × (get_or ps d 0 ≤ 1)) → (s : Bool) × (at_places ps ss ≡ at s)
-    by (p ∷ []) (s ∷ []) e f inside = let i = inside 0 (omega arith) in let one : p ≡ 1 = omega arith in (s, λ i. at_places (one i ∷ []) (s ∷ []))
-    by [] ss e f inside = absurd (omega arith)
-    by (p ∷ q ∷ ps) ss e f inside = absurd (omega arith)
-    by (p ∷ []) [] e f inside = absurd (omega arith)
-    by (p ∷ []) (s ∷ t ∷ ss) e f inside = absurd (omega arith)
-
 module _ (w : ℕ) (some : 1 ≤ w) (most : w ≤ 32) where
   abbrev before : Block
   before = alone 1 w (lit≤ tt) some most row refl
+
+  -- there is one place, and the operands may be swapped
+  forced : (q : Placement) → Admissible before second q → (s : Bool) × (q ≡ at s)
+  forced q adm = by q.places q.swaps adm.each_placed adm.each_told adm.inside
+    where
+      by : (ps : List ℕ) (ss : List Bool) → length ps ≡ 1 → length ss ≡ 1 → ((d : ℕ) → d < length ps → (1 ≤ get_or ps d 0) × (get_or ps d 0 ≤ 1)) → (s : Bool) × (at_places ps ss ≡ at s)
+      by (p ∷ []) (s ∷ []) e f inside = let i = inside 0 (omega arith) in let one : p ≡ 1 = omega arith in (s, λ i. at_places (one i ∷ []) (s ∷ []))
+      by [] ss e f inside = absurd (omega arith)
+      by (p ∷ q ∷ ps) ss e f inside = absurd (omega arith)
+      by (p ∷ []) [] e f inside = absurd (omega arith)
+      by (p ∷ []) (s ∷ t ∷ ss) e f inside = absurd (omega arith)
 
   abbrev with_row : (s : Row) → uses_none_past 1 s ≡ true → Block
   with_row s h = pair 1 w (lit≤ tt) some most row refl s h
@@ -71,15 +71,15 @@ module _ (w : ℕ) (some : 1 ≤ w) (most : w ≤ 32) where
   unfolding port_price adder_price precedes
   price_left = refl
 
-  dearer : (s : Bool) (q : Placement) → at s ≡ q → (other : Block) → Admissible 1 second q → Placed before 1 second q other → 2 ≤ block_price count_list other
+  dearer : (s : Bool) (q : Placement) → at s ≡ q → (other : Block) → Admissible before second q → Placed before 1 second q other → 2 ≤ block_price count_list other
   unfolding port_price adder_price precedes
   dearer false q = no_cheaper 1 w (lit≤ tt) some most row refl (placed_at false) refl second 2 (lit≤ tt) (at false) q refl refl
   dearer true q = no_cheaper 1 w (lit≤ tt) some most row refl (placed_at true) refl second 2 (lit≤ tt) (at true) q refl refl
 
-  least : (q : Placement) (other : Block) → Admissible 1 second q → Placed before 1 second q other → block_price count_list left ≤ block_price count_list other
+  least : (q : Placement) (other : Block) → Admissible before second q → Placed before 1 second q other → block_price count_list left ≤ block_price count_list other
   least q other adm p = let f = forced q adm in subst (λ n. n ≤ block_price count_list other) (sym price_left) (dearer f.0 q (sym f.1) other adm p)
 
-  places : (q : Placement) → Admissible 1 second q → q.places ≡ (1 ∷ [])
+  places : (q : Placement) → Admissible before second q → q.places ≡ (1 ∷ [])
   places q adm = ap (λ x. x.places) (forced q adm).1
 
   of_first : RowOf first row

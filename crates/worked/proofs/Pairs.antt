@@ -91,9 +91,9 @@ module _ (a w : ℕ) (few : a ≤ 8) (some : 1 ≤ w) (most : w ≤ 32) (r : Row
     retired b p = one_rewritten pair 1 None b alone p (record { adders = refl; width = refl; there = refl; others = λ k ne. sym (others_stay one_row 1 (Some s) k ne) })
 
     -- the chain stands there at some placement, and then the block is this one
-    module _ (chain : Chain) (q : Placement) (adm : Admissible a chain q) (slots : s.slots ≡ placed_slots q (chain_adders chain)) (output : s.output ≡ placed_output q chain) where
+    module _ (chain : Chain) (q : Placement) (adm : Admissible alone chain q) (slots : s.slots ≡ placed_slots q (chain_adders chain)) (output : s.output ≡ placed_output q chain) where
       pub placed_row : PlacedRow chain q s
-      placed_row = (is_placed a chain q few adm (Ok s) (kept (subst (λ xs. first_broken (row_rules xs (placed_output q chain)) ≡ None) slots (subst (λ o. first_broken (row_rules s.slots o) ≡ None) output (unbroken s))) slots output)).0
+      placed_row = (is_placed alone chain q adm (Ok s) (kept (subst (λ xs. first_broken (row_rules xs (placed_output q chain)) ≡ None) slots (subst (λ o. first_broken (row_rules s.slots o) ≡ None) output (unbroken s))) slots output)).0
 
       pub placed : Placed alone 1 chain q pair
       placed = record { row = s; of_chain = placed_row; rest = is_written }

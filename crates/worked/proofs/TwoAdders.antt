@@ -42,8 +42,11 @@ placed_at false true = laid (placed_slots (at false true) (chain_adders second))
 placed_at true false = laid (placed_slots (at true false) (chain_adders second)) (placed_output (at true false) second) refl refl
 placed_at true true = laid (placed_slots (at true true) (chain_adders second)) (placed_output (at true true) second) refl refl
 
+abbrev before : Block
+before = alone 2 16 (lit≤ tt) (lit≤ tt) (lit≤ tt) row refl
+
 -- adder 2 reads adder 1, so that their places are 1 and 2; the operands of each may be swapped
-forced : (q : Placement) → Admissible 2 second q → (s : Bool) × (t : Bool) × (q ≡ at s t)
+forced : (q : Placement) → Admissible before second q → (s : Bool) × (t : Bool) × (q ≡ at s t)
 forced q adm = by q.places q.swaps adm.each_placed adm.each_told adm.inside (adm.fed 0 1 (add 1 0 0 4) refl (inl refl))
   where
     by : (ps : List ℕ) (ss : List Bool) → length ps ≡ 2 → length ss ≡ 2 → ((d : ℕ) → d < length ps → (1 ≤ get_or ps d 0) × (get_or ps d 0 ≤ 2)) → get_or ps 0 0 < get_or ps 1 0 → (s : Bool) × (t : Bool) × (at_places ps ss ≡ at s t)
@@ -60,9 +63,6 @@ forced q adm = by q.places q.swaps adm.each_placed adm.each_told adm.inside (adm
     by (p ∷ q ∷ []) (s ∷ []) e f inside less = absurd (omega arith)
     by (p ∷ q ∷ []) (s ∷ t ∷ u ∷ ss) e f inside less = absurd (omega arith)
 
-abbrev before : Block
-before = alone 2 16 (lit≤ tt) (lit≤ tt) (lit≤ tt) row refl
-
 abbrev left : Block
 left = pair 2 16 (lit≤ tt) (lit≤ tt) (lit≤ tt) row refl (placed_at false false) refl
 
@@ -70,17 +70,17 @@ price_left : block_price count_list left ≡ 2
 unfolding port_price adder_price precedes
 price_left = refl
 
-dearer : (s t : Bool) (q : Placement) → at s t ≡ q → (other : Block) → Admissible 2 second q → Placed before 1 second q other → 2 ≤ block_price count_list other
+dearer : (s t : Bool) (q : Placement) → at s t ≡ q → (other : Block) → Admissible before second q → Placed before 1 second q other → 2 ≤ block_price count_list other
 unfolding port_price adder_price precedes
 dearer false false q = no_cheaper 2 16 (lit≤ tt) (lit≤ tt) (lit≤ tt) row refl (placed_at false false) refl second 2 (lit≤ tt) (at false false) q refl refl
 dearer false true q = no_cheaper 2 16 (lit≤ tt) (lit≤ tt) (lit≤ tt) row refl (placed_at false true) refl second 2 (lit≤ tt) (at false true) q refl refl
 dearer true false q = no_cheaper 2 16 (lit≤ tt) (lit≤ tt) (lit≤ tt) row refl (placed_at true false) refl second 2 (lit≤ tt) (at true false) q refl refl
 dearer true true q = no_cheaper 2 16 (lit≤ tt) (lit≤ tt) (lit≤ tt) row refl (placed_at true true) refl second 2 (lit≤ tt) (at true true) q refl refl
 
-least : (q : Placement) (other : Block) → Admissible 2 second q → Placed before 1 second q other → block_price count_list left ≤ block_price count_list other
+least : (q : Placement) (other : Block) → Admissible before second q → Placed before 1 second q other → block_price count_list left ≤ block_price count_list other
 least q other adm p = let f = forced q adm in subst (λ n. n ≤ block_price count_list other) (sym price_left) (dearer f.0 f.1 q (sym f.2) other adm p)
 
-places : (q : Placement) → Admissible 2 second q → q.places ≡ (1 ∷ 2 ∷ [])
+places : (q : Placement) → Admissible before second q → q.places ≡ (1 ∷ 2 ∷ [])
 places q adm = ap (λ x. x.places) (forced q adm).2
 
 of_first : RowOf first row

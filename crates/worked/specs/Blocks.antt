@@ -107,7 +107,7 @@ pub record Built (first second : Chain) (w : ℕ) (b : Block) : Type 0 where
   pub before : Block
   pub price : ℕ
   pub founded : Founded first 0 w before
-  pub fused : Fusing count_list second 1 before (Ok price) b
+  pub fused : Fusing (block_price count_list) second 1 before (Ok price) b
 
 -- code 0 has the row of the first chain, code 1 that of the second, and no other code is live
 pub record TwoRows (first second : Chain) (w : ℕ) (b : Block) : Type 0 where

@@ -1,5 +1,6 @@
-use Rattle.std.proofs.Common.{rules, ◌≡◌, ℕ, ◌<◌, ◌≤◌, List, length, take, Some, sym, subst}
+use Rattle.std.proofs.Common.{rules, ◌≡◌, ℕ, ◌<◌, List, length, take, Some, sym, subst}
 use Rattle.chains.specs.Chains.{chain_adders}
+use Rattle.blocks.specs.declared.model.Block.{Block}
 use Rattle.prices.specs.Tables.{Lawful, tables}
 use Rattle.search.specs.Choosing.{Choice}
 use Rattle.placing.specs.Placements.{Admissible}
@@ -25,7 +26,7 @@ returns g c =
     let eight : length c.swaps-swaps.result ≡ 8 = search rules in
     let some : c.cheapest.result ≡ Some c.in_ok-found.found = search rules in
     let choice = subst (Choice c.new-task.result.count _ _ _ c.new-task.result.length) some c.cheapest.ensures in
-    let made = subst (λ (ps : List ℕ). (count : ℕ) → count ≤ 8 → Admissible count c.args.chain.now (at_places ps (take (length ps) c.swaps-swaps.result)) → IsPlaced c.args.chain.now (at_places ps (take (length ps) c.swaps-swaps.result)) c.placed_row.result)
+    let made = subst (λ (ps : List ℕ). (before : Block) → Admissible before c.args.chain.now (at_places ps (take (length ps) c.swaps-swaps.result)) → IsPlaced c.args.chain.now (at_places ps (take (length ps) c.swaps-swaps.result)) c.placed_row.result)
     c.as_slice-places.ensures.items c.placed_row.ensures.placed in
     subst (λ k. ChosenRow (tables (g.L.PriceList.adders k) (g.L.PriceList.muxes k)) c.args.block.now c.args.chain.now c.placed_row.result) same
     (answered t law c.args.block.now c.args.chain.now c.new-task.result is c.new-task.result.length is.length_is c.in_ok-found.found choice c.swaps-swaps.result eight c.swaps-swaps.ensures c.placed_row.result made)
