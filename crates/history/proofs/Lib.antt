@@ -1,3 +1,4 @@
 pub mod Books
+pub mod Runs
 pub mod Histories
 pub mod Replays

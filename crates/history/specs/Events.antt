@@ -9,6 +9,7 @@ use Rattle.blocks.specs.Calls as blocks
 use Rattle.calls.specs.declared.call.Call.{Call}
 use Rattle.calls.specs.declared.call.Call.TheVariants.{Found, Fuse, Retire, Move}
 use Rattle.prices.specs.Tables.{AdderTable, MuxTable, Tables, tables}
+use Rattle.pricing.specs.Prices.{block_price}
 use Rattle.fusing.specs.Fusing.{Fusing}
 use Rattle.history.specs.declared.outcome.Outcome.{Outcome}
 use Rattle.history.specs.declared.outcome.Outcome.TheVariants.{Done, Priced, Refused}
@@ -31,5 +32,5 @@ Step (calling call) before Done after = blocks.Step call before (Ok tt) after
 Step (calling call) before (Priced price) after = ⊥
 Step (calling call) before (Refused e) after = blocks.Step call before (Err e) after
 Step (fusing chain code t) before Done after = ⊥
-Step (fusing chain code t) before (Priced price) after = Fusing t chain code before (Ok price) after
-Step (fusing chain code t) before (Refused e) after = Fusing t chain code before (Err e) after
+Step (fusing chain code t) before (Priced price) after = Fusing (block_price t) chain code before (Ok price) after
+Step (fusing chain code t) before (Refused e) after = Fusing (block_price t) chain code before (Err e) after

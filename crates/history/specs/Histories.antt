@@ -12,11 +12,7 @@ use Rattle.pricing.specs.Laws.{NeverDearer}
 use Rattle.history.specs.declared.outcome.Outcome.{Outcome}
 use Rattle.history.specs.Events.{Event, calling, fusing, Step}
 use Rattle.history.specs.Books.{noted, book, Judged}
-
--- the calls one after another, each keeping to its rules
-pub data Run : Block → List Event → List Outcome → Block → Type 0 where
-  rests : {b : Block} → Run b [] [] b
-  goes : {b m z : Block} {e : Event} {es : List Event} {o : Outcome} {os : List Outcome} → Step e b o m → Run m es os z → Run b (e ∷ es) (o ∷ os) z
+use Rattle.history.specs.Runs.{Run, EachKept}
 
 -- a retiring leaves no dearer block, under every lawful pair of price tables
 abbrev pub NoDearer : Event → Block → Block → Type 0
@@ -32,20 +28,15 @@ pub record Kept (k : Book) (e : Event) (b : Block) (o : Outcome) (m : Block) : T
   pub judged : Judged k e o
   pub no_dearer : NoDearer e b m
 
--- that holds of each call, and the book agrees with the block after the last
-pub data EachKept : Book → Block → List Event → List Outcome → Block → Type 0 where
-  ends : {k : Book} {b : Block} → Tells k b → EachKept k b [] [] b
-  next : {k : Book} {b m z : Block} {e : Event} {es : List Event} {o : Outcome} {os : List Outcome} → Kept k e b o m → EachKept (noted k e) m es os z → EachKept k b (e ∷ es) (o ∷ os) z
-
--- From a place not yet founded and the empty book.
+-- From a place not yet founded and the empty book, that holds of each call, and the book agrees with the block after the last.
 pub record History (es : List Event) (os : List Outcome) (z : Block) : Type 0 where
   pub start : Block
   pub unfounded : Unfounded start
-  pub each : EachKept empty_book start es os z
+  pub each : EachKept noted Tells Kept empty_book start es os z
   pub told : Tells (book empty_book es) z
 
 abbrev pub EveryHistory : Type 0
-EveryHistory = (start z : Block) (es : List Event) (os : List Outcome) → Unfounded start → Run start es os z → History es os z
+EveryHistory = (start z : Block) (es : List Event) (os : List Outcome) → Unfounded start → Run Step start es os z → History es os z
 
 -- there is a place for the outcome of each call, and no more
 abbrev pub length_rules : {C : Type 0} → List C → List Outcome → List Rule

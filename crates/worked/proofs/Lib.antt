@@ -4,4 +4,5 @@ mod Running
 mod Building
 mod OneAdder
 mod TwoAdders
+mod OutOfOrder
 mod List

@@ -1,10 +1,11 @@
--- hm
+-- Each worked case stands.
 use Rattle.std.proofs.Common.{refl, arith}
 use Rattle.std.proofs.lemmas.Int.{ints}
 use Rattle.std.specs.List.{AllByRecursion}
 use Rattle.worked.specs.Cases.{Stands, worked}
 use Rattle.worked.proofs.OneAdder as one_adder
 use Rattle.worked.proofs.TwoAdders as two_adders
+use Rattle.worked.proofs.OutOfOrder as out_of_order
 use Rattle.worked.proofs.Lines.{computed_right, multiplied, whole, moves}
 
 pub all_stand : AllByRecursion Stands worked
@@ -38,7 +39,7 @@ all_stand = (
                             moves _ _ _ _ _ _ refl refl refl refl refl refl,
                             (
                               one_adder.stands,
-                              (two_adders.stands, tt),
+                              (two_adders.stands, (out_of_order.stands, tt)),
                             ),
                           ),
                         ),

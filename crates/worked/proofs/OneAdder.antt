@@ -17,11 +17,12 @@ use Rattle.prices.specs.Supplied.{count_list}
 use Rattle.pricing.specs.Prices.{block_price, port_price, adder_price}
 use Rattle.placing.specs.Placements.{Placement, Admissible, Placed}
 use Rattle.placing.specs.Slots.{at_places, placed_slots, placed_output}
+use Rattle.fusing.specs.Fusing.{Chosen}
 use Rattle.worked.specs.Blocks.{Fact, count, costs, shows, multiplies, Holds, Built, TwoRows}
 use Rattle.worked.specs.Cases.{six_and_ten, Stands}
 use Rattle.worked.proofs.Lines.{chain, is_read}
 use Rattle.worked.proofs.Pairs.{laid, alone, pair, moved}
-use Rattle.worked.proofs.Building.{facts_of, no_cheaper, built, has_rows, one}
+use Rattle.worked.proofs.Building.{facts_of, no_cheaper, own_chosen, built, stands_at, has_rows, one}
 
 abbrev pub add : (i s j t : ℕ) → Adder
 add i s j t = record { left = record { source = i; shift = s }; sign = Plus; right = record { source = j; shift = t } }
@@ -85,17 +86,20 @@ module _ (w : ℕ) (some : 1 ≤ w) (most : w ≤ 32) where
   of_first : RowOf first row
   of_first = record { slots = refl; source = refl; shift = refl }
 
-  of_second : RowOf second (placed_at false)
-  of_second = record { slots = refl; source = refl; shift = refl }
+  chosen : Chosen (block_price count_list) before 1 second (at false) left
+  chosen = own_chosen 1 w (lit≤ tt) some most row refl (placed_at false) refl second (lit≤ tt) refl refl places least
 
   made : Built first second w left
-  made = built 1 w (lit≤ tt) some most row refl (placed_at false) refl second (lit≤ tt) refl refl places least first refl of_first refl refl
+  made = built 1 w (lit≤ tt) some most row refl (placed_at false) refl second (at false) refl refl chosen first refl of_first refl refl
 
-  has : (b : Block) → Built first second w b → TwoRows first second w b
-  has = has_rows 1 w (lit≤ tt) some most row refl (placed_at false) refl second (lit≤ tt) refl refl places least first refl of_first refl refl of_second
+  there : (b : Block) (u : Built first second w b) → u.fused.1.placement ≡ at false
+  there = stands_at 1 w (lit≤ tt) some most row refl (placed_at false) refl second (at false) refl refl chosen first refl of_first refl refl
 
-  is : (b : Block) → TwoRows first second w b → b ≡ left
-  is = one 1 w (lit≤ tt) some most row refl (placed_at false) refl second (lit≤ tt) refl refl places least first refl of_first refl refl of_second
+  has : (b : Block) → Built first second w b → TwoRows first second (at false) w b
+  has = has_rows 1 w (lit≤ tt) some most row refl (placed_at false) refl second (at false) refl refl chosen first refl of_first refl refl
+
+  is : (b : Block) → TwoRows first second (at false) w b → b ≡ left
+  is = one 1 w (lit≤ tt) some most row refl (placed_at false) refl second (at false) refl refl chosen first refl of_first refl refl
 
   abbrev moved_row : Row
   moved_row = laid (moved_from 1 (pos 1) 1 (placed_at false).slots) (moved_operand 1 (pos 1) 0 (placed_at false).output) refl refl
@@ -113,18 +117,21 @@ module _ (w : ℕ) (some : 1 ≤ w) (most : w ≤ 32) where
 
   facts : AllByRecursion (Holds left) (facts_of six_and_ten)
   facts = (
-    refl,
+    record { chain = second; reads = is_read _ _ _ refl refl refl; row = placed_at false; there = refl; of_chain = record { slots = refl; source = refl; shift = refl } },
     (
       refl,
       (
-        price_left,
+        refl,
         (
-          (refl, whatever (shows 1 (codes "chain=0.1+0.3 0")) (record { chain = third; reads = is_read _ _ _ refl refl refl; row = moved_row; there = refl; of_chain = record { slots = refl; source = refl; shift = refl } })),
+          price_left,
           (
-            (refl, whatever (multiplies 1 10) refl),
+            (refl, whatever (shows 1 (codes "chain=0.1+0.3 0")) (record { chain = third; reads = is_read _ _ _ refl refl refl; row = moved_row; there = refl; of_chain = record { slots = refl; source = refl; shift = refl } })),
             (
-              (refl, whatever (costs count 1) moved_price),
-              (refl, tt),
+              (refl, whatever (multiplies 1 10) refl),
+              (
+                (refl, whatever (costs count 1) moved_price),
+                (refl, tt),
+              ),
             ),
           ),
         ),
@@ -139,6 +146,7 @@ stands = record {
   second = second;
   reads_second = is_read _ _ _ refl refl refl;
   some = λ w h. (left w h.0 h.1, made w h.0 h.1);
+  stands = λ w b h u. there w h.0 h.1 b u;
   rows = λ w b h u. has w h.0 h.1 b u;
   all = λ w b h u. subst (λ c. AllByRecursion (Holds c) (facts_of six_and_ten)) (sym (is w h.0 h.1 b u)) (facts w h.0 h.1);
 }

@@ -16,12 +16,13 @@ use Rattle.prices.specs.Supplied.{count_list, per_bit_list}
 use Rattle.pricing.specs.Prices.{block_price, port_price, adder_price}
 use Rattle.placing.specs.Placements.{Placement, Admissible, Placed}
 use Rattle.placing.specs.Slots.{at_places, placed_slots, placed_output}
+use Rattle.fusing.specs.Fusing.{Chosen}
 use Rattle.worked.specs.Blocks.{units, Costs, Holds, Built, TwoRows}
 use Rattle.worked.specs.Cases.{forty_five_and_nineteen, Stands}
 use Rattle.worked.proofs.Lines.{chain, is_read, whole}
 use Rattle.worked.proofs.Pairs.{laid, alone, pair, retired}
 use Rattle.worked.proofs.Running.{runs_word, runs_mod_255}
-use Rattle.worked.proofs.Building.{facts_of, no_cheaper, built, has_rows, one}
+use Rattle.worked.proofs.Building.{facts_of, no_cheaper, own_chosen, built, stands_at, has_rows, one}
 use Rattle.worked.proofs.OneAdder.{add}
 
 abbrev first : Chain
@@ -86,20 +87,23 @@ places q adm = ap (λ x. x.places) (forced q adm).2
 of_first : RowOf first row
 of_first = record { slots = refl; source = refl; shift = refl }
 
-of_second : RowOf second (placed_at false false)
-of_second = record { slots = refl; source = refl; shift = refl }
+chosen : Chosen (block_price count_list) before 1 second (at false false) left
+chosen = own_chosen 2 16 (lit≤ tt) (lit≤ tt) (lit≤ tt) row refl (placed_at false false) refl second (lit≤ tt) refl refl places least
 
 made : Built first second 16 left
-made = built 2 16 (lit≤ tt) (lit≤ tt) (lit≤ tt) row refl (placed_at false false) refl second (lit≤ tt) refl refl places least first refl of_first refl refl
+made = built 2 16 (lit≤ tt) (lit≤ tt) (lit≤ tt) row refl (placed_at false false) refl second (at false false) refl refl chosen first refl of_first refl refl
 
-has : (b : Block) → Built first second 16 b → TwoRows first second 16 b
-has = has_rows 2 16 (lit≤ tt) (lit≤ tt) (lit≤ tt) row refl (placed_at false false) refl second (lit≤ tt) refl refl places least first refl of_first refl refl of_second
+there : (b : Block) (u : Built first second 16 b) → u.fused.1.placement ≡ at false false
+there = stands_at 2 16 (lit≤ tt) (lit≤ tt) (lit≤ tt) row refl (placed_at false false) refl second (at false false) refl refl chosen first refl of_first refl refl
 
-is : (b : Block) → TwoRows first second 16 b → b ≡ left
-is = one 2 16 (lit≤ tt) (lit≤ tt) (lit≤ tt) row refl (placed_at false false) refl second (lit≤ tt) refl refl places least first refl of_first refl refl of_second
+has : (b : Block) → Built first second 16 b → TwoRows first second (at false false) 16 b
+has = has_rows 2 16 (lit≤ tt) (lit≤ tt) (lit≤ tt) row refl (placed_at false false) refl second (at false false) refl refl chosen first refl of_first refl refl
+
+is : (b : Block) → TwoRows first second (at false false) 16 b → b ≡ left
+is = one 2 16 (lit≤ tt) (lit≤ tt) (lit≤ tt) row refl (placed_at false false) refl second (at false false) refl refl chosen first refl of_first refl refl
 
 -- the per-bit list
-abbrev list : PerBitList
+abbrev pub list : PerBitList
 list = record { units = record { adds = 4; subtracts = 5; both = 6; two_to_one = 2 }; both_most = lit≤ tt; mux_most = lit≤ tt; adds_less = lit≤ tt; subtracts_less = lit≤ tt }
 
 price : block_price (per_bit_list list) left ≡ 244
@@ -116,22 +120,25 @@ four_deep = refl
 
 facts : AllByRecursion (Holds left) (facts_of forty_five_and_nineteen)
 facts = (
-  refl,
+  record { chain = second; reads = is_read _ _ _ refl refl refl; row = placed_at false false; there = refl; of_chain = record { slots = refl; source = refl; shift = refl } },
   (
     refl,
     (
-      four_deep,
+      refl,
       (
-        price_left,
+        four_deep,
         (
-          record { list = list; has = refl; price = price },
+          price_left,
           (
-            (refl, λ b d. subst (Costs (units 4 5 6 2) 164) (sym (retired 2 16 (lit≤ tt) (lit≤ tt) (lit≤ tt) row refl (placed_at false false) refl b d)) (record { list = list; has = refl; price = retired_price })),
+            record { list = list; has = refl; price = price },
             (
-              runs_word left 0 45 refl refl _ _ (whole 45 _ _ (record { least = omega (arith, ints); most = omega (arith, ints) }) refl),
+              (refl, λ b d. subst (Costs (units 4 5 6 2) 164) (sym (retired 2 16 (lit≤ tt) (lit≤ tt) (lit≤ tt) row refl (placed_at false false) refl b d)) (record { list = list; has = refl; price = retired_price })),
               (
-                runs_word left 1 19 refl refl _ _ (whole 19 _ _ (record { least = omega (arith, ints); most = omega (arith, ints) }) refl),
-                (runs_mod_255 left 0 45 refl refl _ _ refl, tt),
+                runs_word left 0 45 refl refl _ _ (whole 45 _ _ (record { least = omega (arith, ints); most = omega (arith, ints) }) refl),
+                (
+                  runs_word left 1 19 refl refl _ _ (whole 19 _ _ (record { least = omega (arith, ints); most = omega (arith, ints) }) refl),
+                  (runs_mod_255 left 0 45 refl refl _ _ refl, tt),
+                ),
               ),
             ),
           ),
@@ -148,6 +155,7 @@ stands = record {
   second = second;
   reads_second = is_read _ _ _ refl refl refl;
   some = λ w h. subst (λ n. (b : Block) × Built first second n b) (sym h) (left, made);
-  rows = λ w b h u. subst (λ n. TwoRows first second n b) (sym h) (has b (subst (λ n. Built first second n b) h u));
-  all = λ w b h u. subst (λ c. AllByRecursion (Holds c) (facts_of forty_five_and_nineteen)) (sym (is b (subst (λ n. TwoRows first second n b) h u))) facts;
+  stands = λ w b h. subst (λ n. (u : Built first second n b) → u.fused.1.placement ≡ at false false) (sym h) (there b);
+  rows = λ w b h. subst (λ n. Built first second n b → TwoRows first second (at false false) n b) (sym h) (has b);
+  all = λ w b h u. subst (λ c. AllByRecursion (Holds c) (facts_of forty_five_and_nineteen)) (sym (is b (subst (λ n. TwoRows first second (at false false) n b) h u))) facts;
 }

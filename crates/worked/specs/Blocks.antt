@@ -24,6 +24,7 @@ use Rattle.prices.specs.declared.per_bit.PerBitList.{PerBitList}
 use Rattle.prices.specs.declared.per_bit.UnitPrices.{UnitPrices}
 use Rattle.prices.specs.Supplied.{count_list, per_bit_list}
 use Rattle.pricing.specs.Prices.{block_price}
+use Rattle.placing.specs.Placements.{Placement, PlacedRow}
 use Rattle.fusing.specs.Fusing.{Fusing}
 use Rattle.worked.specs.Lines.{done, fault, call_answer}
 
@@ -51,11 +52,12 @@ pub data Fact : Type 0 where
   -- it is done, and then this holds
   after : Call → Fact → Fact
 
--- two chain lines, at codes 0 and 1
+-- two chain lines, at codes 0 and 1, and where the second stands
 pub record TwoLines : Type 0 where
   pub width : Width
   pub first : List ℕ
   pub second : List ℕ
+  pub placement : Placement
 
 -- What each claims.
 
@@ -109,8 +111,8 @@ pub record Built (first second : Chain) (w : ℕ) (b : Block) : Type 0 where
   pub founded : Founded first 0 w before
   pub fused : Fusing (block_price count_list) second 1 before (Ok price) b
 
--- code 0 has the row of the first chain, code 1 that of the second, and no other code is live
-pub record TwoRows (first second : Chain) (w : ℕ) (b : Block) : Type 0 where
+-- code 0 has the row of the first chain, code 1 that of the second at the placement p, and no other code is live
+pub record TwoRows (first second : Chain) (p : Placement) (w : ℕ) (b : Block) : Type 0 where
   pub adders : b.adders ≡ length (chain_adders first)
   pub width : b.width ≡ w
   pub row_0 : Row
@@ -118,15 +120,23 @@ pub record TwoRows (first second : Chain) (w : ℕ) (b : Block) : Type 0 where
   pub at_0 : row_of b 0 ≡ Some row_0
   pub at_1 : row_of b 1 ≡ Some row_1
   pub of_first : RowOf first row_0
-  pub of_second : RowOf second row_1
+  pub of_second : PlacedRow second p row_1
   pub others : (code : ℕ) → code ≢ 0 → code ≢ 1 → row_of b code ≡ None
 
--- the lines are read as chains, some block is built of them, every such block has their two rows, and all this holds of every block that has them
+-- The lines are read as chains, and some block is built of them.
+-- In every such block the second stands at its placement, so that the block has their two rows, and all this holds of every block that has them.
 pub record AllHold (lines : TwoLines) (facts : List Fact) : Type 0 where
   pub first : Chain
   pub reads_first : Reading lines.first (Ok first)
   pub second : Chain
   pub reads_second : Reading lines.second (Ok second)
   pub some : (w : ℕ) → HasWidth lines.width w → (b : Block) × Built first second w b
-  pub rows : (w : ℕ) (b : Block) → HasWidth lines.width w → Built first second w b → TwoRows first second w b
-  pub all : (w : ℕ) (b : Block) → HasWidth lines.width w → TwoRows first second w b → AllByRecursion (Holds b) facts
+  pub stands : (w : ℕ) (b : Block) → HasWidth lines.width w
+      → (built : Built first second w b)
+      → built.fused.1.placement ≡ lines.placement
+  pub rows : (w : ℕ) (b : Block) → HasWidth lines.width w
+      → Built first second w b
+      → TwoRows first second lines.placement w b
+  pub all : (w : ℕ) (b : Block) → HasWidth lines.width w
+      → TwoRows first second lines.placement w b
+      → AllByRecursion (Holds b) facts

@@ -1,6 +1,7 @@
 -- The worked cases.
-use Rattle.std.specs.Prelude.{ℕ, List, [], ◌∷◌, ℤ, pos, negsuc, codes}
+use Rattle.std.specs.Prelude.{ℕ, true, false, List, [], ◌∷◌, ℤ, pos, negsuc, codes}
 use Rattle.blocks.specs.Calls.{retiring, moving}
+use Rattle.placing.specs.Slots.{at_places}
 use Rattle.worked.specs.Lines.{Answer, constant, done, fault, Answers, Sample, word, residue, Multiplies, Moves}
 use Rattle.worked.specs.Blocks.{TwoLines, any, bits, Fact, depth, count, units, costs, shows, multiplies, runs_word, runs_mod_255, refuses, after, AllHold}
 
@@ -23,8 +24,14 @@ Stands (block lines facts) = AllHold lines facts
 -- the block of the constants 6 and 10
 abbrev pub six_and_ten : Case
 six_and_ten = block
-    (record { width = any; first = codes "chain=0.1+0.2 0"; second = codes "chain=0.0+0.2 1" })
-    (multiplies 0 6
+    (record {
+      width = any;
+      first = codes "chain=0.1+0.2 0";
+      second = codes "chain=0.0+0.2 1";
+      placement = at_places (1 ∷ []) (false ∷ []);
+    })
+    (shows 1 (codes "chain=0.0+0.2 1")
+    ∷ multiplies 0 6
     ∷ multiplies 1 10
     ∷ costs count 2
     ∷ after (moving 1 1 (pos 1)) (shows 1 (codes "chain=0.1+0.3 0"))
@@ -36,8 +43,14 @@ six_and_ten = block
 -- the block of the constants 45 and 19; negsuc 6 is -7, negsuc 314 is -315 and negsuc 132 is -133
 abbrev pub forty_five_and_nineteen : Case
 forty_five_and_nineteen = block
-    (record { width = bits 16; first = codes "chain=0.0+0.2 1.0+1.3 0"; second = codes "chain=0.0+0.1 1.0+0.4 0" })
-    (multiplies 0 45
+    (record {
+      width = bits 16;
+      first = codes "chain=0.0+0.2 1.0+1.3 0";
+      second = codes "chain=0.0+0.1 1.0+0.4 0";
+      placement = at_places (1 ∷ 2 ∷ []) (false ∷ false ∷ []);
+    })
+    (shows 1 (codes "chain=0.0+0.1 1.0+0.4 0")
+    ∷ multiplies 0 45
     ∷ multiplies 1 19
     ∷ depth 4
     ∷ costs count 2
@@ -46,6 +59,23 @@ forty_five_and_nineteen = block
     ∷ runs_word 0 (negsuc 6) (negsuc 314)
     ∷ runs_word 1 (negsuc 6) (negsuc 132)
     ∷ runs_mod_255 0 200 75
+    ∷ [])
+
+-- the block of the constant 29 at both codes, in which the second chain stands out of order and with adder 3 swapped, and so costs nothing
+abbrev pub twice_twenty_nine : Case
+twice_twenty_nine = block
+    (record {
+      width = bits 16;
+      first = codes "chain=0.0+0.2 0.0+0.1 1.0+2.3 0";
+      second = codes "chain=0.0+0.1 0.0+0.2 1.3+2.0 0";
+      placement = at_places (2 ∷ 1 ∷ 3 ∷ []) (false ∷ false ∷ true ∷ []);
+    })
+    (shows 1 (codes "chain=0.0+0.2 0.0+0.1 1.0+2.3 0")
+    ∷ multiplies 0 29
+    ∷ multiplies 1 29
+    ∷ depth 2
+    ∷ costs count 0
+    ∷ costs (units 4 5 6 2) 232
     ∷ [])
 
 abbrev pub worked : List Case
@@ -66,4 +96,5 @@ worked =
     ∷ move (codes "chain=0.0+0.2 1") 1 (pos 2) (fault 13 0)
     ∷ six_and_ten
     ∷ forty_five_and_nineteen
+    ∷ twice_twenty_nine
     ∷ []
