@@ -6,3 +6,4 @@ mod Choosing
 pub mod Determined
 pub mod Books
 mod Swaps
+mod InPlace

@@ -2,10 +2,15 @@
 --   cost   what a block costs
 --   d      an adder of the chain, counted from 0
 --   p      a placement
-use Rattle.std.specs.Prelude.{◌≡◌, ℕ, zero, suc, ◌<◌, Bool, true, false, List, [], ◌∷◌}
+use Rattle.std.specs.Prelude.{◌≡◌, ℕ, zero, suc, ◌<◌, Bool, true, false, List, [], ◌∷◌, None}
 use Rattle.chains.specs.declared.model.Chain.{Chain}
 use Rattle.blocks.specs.declared.model.Block.{Block}
-use Rattle.placing.specs.Placements.{Placement, swap, Placed}
+use Rattle.blocks.specs.Blocks.{row_of}
+use Rattle.ports.specs.declared.port.Port.TheVariants.{Left, Right}
+use Rattle.prices.specs.Tables.{Tables, Lawful}
+use Rattle.pricing.specs.Laws.{InPlace}
+use Rattle.pricing.specs.Prices.{block_price}
+use Rattle.placing.specs.Placements.{Placement, place, swap, Placed}
 use Rattle.fusing.specs.Fusing.{Chosen}
 
 abbrev pub kept_at : ℕ → List Bool → List Bool
@@ -25,3 +30,15 @@ SwapsPay =
     → swap p d ≡ true
     → Placed before code chain (as_it_is d p) other
     → cost after < cost other
+
+-- an adder both of whose operands are in place as it is, and so add nothing at their ports, is not swapped, under any lawful list
+abbrev pub InPlaceStays : Type 0
+InPlaceStays =
+    (t : Tables) (before : Block) (code : ℕ) (chain : Chain) (p : Placement) (d : ℕ) (after other : Block)
+    → Lawful t
+    → row_of before code ≡ None
+    → Chosen (block_price t) before code chain p after
+    → (as_is : Placed before code chain (as_it_is d p) other)
+    → InPlace as_is.row before (Left (place p d))
+    → InPlace as_is.row before (Right (place p d))
+    → swap p d ≡ false

@@ -83,7 +83,7 @@ total_grows f g zero h = omega arith
 total_grows f g (suc n) h = omega (arith, total_grows f g n h, h (suc n))
 
 module _ (a b : Block) (some : SomeRowsOf a b) where
-  ports_grow : (price : MuxTable) → LawfulMuxes price → (p : Port) → port_price price a p ≤ port_price price b p
+  pub ports_grow : (price : MuxTable) → LawfulMuxes price → (p : Port) → port_price price a p ≤ port_price price b p
   unfolding port_price
   ports_grow price law p =
       let n : Net = OfPort p in

@@ -3,4 +3,4 @@ pub mod Columns
 pub mod Meanings
 pub mod Adding
 pub mod Comparing
-mod Staying
+pub mod Staying
