@@ -55,7 +55,7 @@ abbrev pub placed_adder : Placement → Bool → Adder → Adder
 placed_adder p false a = record { left = placed_operand p a.left; sign = a.sign; right = placed_operand p a.right }
 placed_adder p true a = record { left = placed_operand p a.right; sign = a.sign; right = placed_operand p a.left }
 
--- The row that the chain has there: its adders at their places and no others, and the output reads the last of them, or the sample where there is none, under the chain's output shift.
+-- The row that the chain has there: its adders at their places and no others, and an output that reads where the chain's adder of the highest number stands (the sample, of a chain without adders) with the output shift of the chain.
 pub record PlacedRow (chain : Chain) (p : Placement) (row : Row) : Type 0 where
   pub there : (d : ℕ) (a : Adder) → nth_adder chain d ≡ Some a → adder_at row (place p d) ≡ Some (placed_adder p (swap p d) a)
   pub others : (j : ℕ) → ((d : ℕ) → d < length p.places → place p d ≢ j) → adder_at row j ≡ None

@@ -84,7 +84,7 @@ impl Placement<'_> {
         NUMBERS.map(|number| self.adder_at(number, adders))
     }
 
-    // The last adder, or the sample where there is none, under the chain's output shift.
+    // What reads the chain's adder of the highest number, or the sample of a chain without adders.
     fn output(self, chain: &Chain) -> Operand
         ensures { result ≡ placed_output (at_places self.entry.places.now self.entry.swaps.now) chain.now }
     {
