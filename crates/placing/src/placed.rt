@@ -84,7 +84,7 @@ impl Placement<'_> {
         NUMBERS.map(|number| self.adder_at(number, adders))
     }
 
-    // What reads the chain's adder of the highest number, or the sample of a chain without adders.
+    // The output operand: it reads where the chain's adder of the highest number stands, or the sample of a chain without adders.
     fn output(self, chain: &Chain) -> Operand
         ensures { result ≡ placed_output (at_places self.entry.places.now self.entry.swaps.now) chain.now }
     {
