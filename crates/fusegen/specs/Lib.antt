@@ -1,2 +1,3 @@
 pub mod Scripts
 pub mod Generated
+pub mod Answers
