@@ -21,7 +21,7 @@ pub data ChainLines : List ℕ → List Chain → Option Refusal → Type 0 wher
   more : {text line after : List ℕ} {b : ℕ} {c : Chain} {cs : List Chain} {stop : Option Refusal} → FirstLine text line (b ∷ after) → Reading line (Ok c) → ChainLines (b ∷ after) cs stop → ChainLines text (c ∷ cs) stop
   turned_down : {text line after : List ℕ} {e : Refusal} → FirstLine text line after → Reading line (Err e) → ChainLines text [] (Some e)
 
--- the first chain founds code 0, the others are fused at codes 1, 2 and so on
+-- with the first chain the block is founded at code 0; each chain after it is fused at the next code
 abbrev pub call_at : ℕ → ℕ → Chain → Call CountList
 call_at w zero c = Found c 0 w
 call_at w (suc k) c = Fuse c (suc k) (record {})

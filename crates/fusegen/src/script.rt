@@ -17,7 +17,7 @@ pub struct Script {
     pub stop: Option<Refusal>,
 }
 
-// The first chain founds code 0, the others are fused at codes 1, 2 and so on.
+// With the first chain the block is founded at code 0; each chain after it is fused at the next code.
 fn call_at(width: usize, code: usize, chain: Chain) -> Call<CountList>
     ensures { result ≡ call_at width code chain }
 {
