@@ -30,8 +30,15 @@ Before q p = Lower q.places p.places ⊎ ((q.places ≡ p.places) × Unswapped q
 pub record Chosen (cost : Block → ℕ) (before : Block) (code : ℕ) (chain : Chain) (p : Placement) (after : Block) : Type 0 where
   pub admissible : Admissible before chain p
   pub placed : Placed before code chain p after
-  pub least : (q : Placement) (other : Block) → Admissible before chain q → Placed before code chain q other → cost after ≤ cost other
-  pub first : (q : Placement) (other : Block) → Admissible before chain q → Placed before code chain q other → Before q p → cost after < cost other
+  pub least : (q : Placement) (other : Block)
+      → Admissible before chain q
+      → Placed before code chain q other
+      → cost after ≤ cost other
+  pub first : (q : Placement) (other : Block)
+      → Admissible before chain q
+      → Placed before code chain q other
+      → Before q p
+      → cost after < cost other
 
 -- what fusing leaves and answers: the block's new price
 pub record Fused (cost : Block → ℕ) (before : Block) (code : ℕ) (chain : Chain) (price : ℕ) (after : Block) : Type 0 where
@@ -39,9 +46,14 @@ pub record Fused (cost : Block → ℕ) (before : Block) (code : ℕ) (chain : C
   pub chosen : Chosen cost before code chain placement after
   pub priced : price ≡ cost after
 
--- A code of the sixteen, then one with nothing there, then a chain with no more adders than there are. All of it is asked of what a block and a plain book both show.
+-- A code of the sixteen, then one with nothing there, then a chain with no more adders than there are.
+-- All of it is asked of what a block and a plain book both show.
 abbrev pub fusing_rules : ℕ → (ℕ → Option ℕ) → Chain → ℕ → List Rule
-fusing_rules count constants chain code = code_rules code ++ rule (not (is_some (constants code))) CodeLive ∷ rule (nat_le (length (chain_adders chain)) count) BlockTooSmall ∷ []
+fusing_rules count constants chain code =
+    code_rules code
+    ++ rule (not (is_some (constants code))) CodeLive
+    ∷ rule (nat_le (length (chain_adders chain)) count) BlockTooSmall
+    ∷ []
 
 -- there is an idle code of this number, and the block has no fewer adders than the chain
 pub record Fusable (before : Block) (number : ℕ) (chain : Chain) : Type 0 where
@@ -51,8 +63,14 @@ pub record Fusable (before : Block) (number : ℕ) (chain : Chain) : Type 0 wher
 
 -- What the rules say of one fusing, its answer and the block after it.
 abbrev pub Fusing : (Block → ℕ) → Chain → ℕ → Block → Result ℕ Refusal → Block → Type 0
-Fusing cost chain code before r after = Changed (fusing_rules before.adders (constant_at before) chain code) before (λ price b. Fused cost before code chain price b) r after
+Fusing cost chain code before r after =
+    Changed (fusing_rules before.adders (constant_at before) chain code) before
+    (λ price b. Fused cost before code chain price b) r after
 
 -- the placement, the answer and the block are determined
 abbrev pub FusingIsDetermined : Type 0
-FusingIsDetermined = (cost : Block → ℕ) (before : Block) (code : ℕ) (chain : Chain) (m n : ℕ) (a b : Block) → (f : Fused cost before code chain m a) → (g : Fused cost before code chain n b) → (f.placement ≡ g.placement) × (m ≡ n) × (a ≡ b)
+FusingIsDetermined =
+    (cost : Block → ℕ) (before : Block) (code : ℕ) (chain : Chain) (m n : ℕ) (a b : Block)
+    → (f : Fused cost before code chain m a)
+    → (g : Fused cost before code chain n b)
+    → (f.placement ≡ g.placement) × (m ≡ n) × (a ≡ b)

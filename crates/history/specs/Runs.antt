@@ -10,7 +10,10 @@ use Rattle.std.specs.Prelude.{List, [], ◌∷◌}
 -- the calls one after another, each keeping to its rules
 pub data Run {E S O : Type 0} (Step : E → S → O → S → Type 0) : S → List E → List O → S → Type 0 where
   rests : {b : S} → Run Step b [] [] b
-  goes : {b m z : S} {e : E} {es : List E} {o : O} {os : List O} → Step e b o m → Run Step m es os z → Run Step b (e ∷ es) (o ∷ os) z
+  goes : {b m z : S} {e : E} {es : List E} {o : O} {os : List O}
+      → Step e b o m
+      → Run Step m es os z
+      → Run Step b (e ∷ es) (o ∷ os) z
 
 -- the book after some calls
 abbrev pub noted_all : {E K : Type 0} → (K → E → K) → K → List E → K
@@ -18,6 +21,11 @@ noted_all noted k [] = k
 noted_all noted k (e ∷ es) = noted_all noted (noted k e) es
 
 -- that holds of each call, and the book agrees with the state after the last
-pub data EachKept {E S O K : Type 0} (noted : K → E → K) (Tells : K → S → Type 0) (Kept : K → E → S → O → S → Type 0) : K → S → List E → List O → S → Type 0 where
+pub data EachKept {E S O K : Type 0}
+    (noted : K → E → K) (Tells : K → S → Type 0) (Kept : K → E → S → O → S → Type 0)
+    : K → S → List E → List O → S → Type 0 where
   ends : {k : K} {b : S} → Tells k b → EachKept noted Tells Kept k b [] [] b
-  next : {k : K} {b m z : S} {e : E} {es : List E} {o : O} {os : List O} → Kept k e b o m → EachKept noted Tells Kept (noted k e) m es os z → EachKept noted Tells Kept k b (e ∷ es) (o ∷ os) z
+  next : {k : K} {b m z : S} {e : E} {es : List E} {o : O} {os : List O}
+      → Kept k e b o m
+      → EachKept noted Tells Kept (noted k e) m es os z
+      → EachKept noted Tells Kept k b (e ∷ es) (o ∷ os) z

@@ -55,7 +55,8 @@ abbrev pub placed_adder : Placement → Bool → Adder → Adder
 placed_adder p false a = record { left = placed_operand p a.left; sign = a.sign; right = placed_operand p a.right }
 placed_adder p true a = record { left = placed_operand p a.right; sign = a.sign; right = placed_operand p a.left }
 
--- The row that the chain has there: its adders at their places and no others, and an output that reads where the chain's adder of the highest number stands (the sample, of a chain without adders) with the output shift of the chain.
+-- The row that the chain has there: its adders at their places and no others, and an output that reads where the chain's adder
+-- of the highest number stands (the sample, of a chain without adders) with the output shift of the chain.
 pub record PlacedRow (chain : Chain) (p : Placement) (row : Row) : Type 0 where
   pub there : (d : ℕ) (a : Adder) → nth_adder chain d ≡ Some a → adder_at row (place p d) ≡ Some (placed_adder p (swap p d) a)
   pub others : (j : ℕ) → ((d : ℕ) → d < length p.places → place p d ≢ j) → adder_at row j ≡ None
@@ -73,10 +74,24 @@ pub record Placed (before : Block) (code : ℕ) (chain : Chain) (p : Placement) 
 -- at each admissible placement the chain has one row, and one block is left by it; the row multiplies by the chain's constant
 pub record PlacementLaw : Type 0 where
   pub row : (before : Block) (chain : Chain) (p : Placement) → Admissible before chain p → (row : Row) × PlacedRow chain p row
-  pub row_one : (before : Block) (chain : Chain) (p : Placement) (r s : Row) → Admissible before chain p → PlacedRow chain p r → PlacedRow chain p s → r ≡ s
-  pub constant : (before : Block) (chain : Chain) (p : Placement) (r : Row) → Admissible before chain p → PlacedRow chain p r → constant_of r ≡ chain_constant chain
-  pub block : (before : Block) (code : ℕ) (chain : Chain) (p : Placement) → code ≤ 15 → Admissible before chain p → (after : Block) × Placed before code chain p after
-  pub block_one : (before : Block) (code : ℕ) (chain : Chain) (p : Placement) (a b : Block) → Admissible before chain p → Placed before code chain p a → Placed before code chain p b → a ≡ b
+  pub row_one : (before : Block) (chain : Chain) (p : Placement) (r s : Row)
+      → Admissible before chain p
+      → PlacedRow chain p r
+      → PlacedRow chain p s
+      → r ≡ s
+  pub constant : (before : Block) (chain : Chain) (p : Placement) (r : Row)
+      → Admissible before chain p
+      → PlacedRow chain p r
+      → constant_of r ≡ chain_constant chain
+  pub block : (before : Block) (code : ℕ) (chain : Chain) (p : Placement)
+      → code ≤ 15
+      → Admissible before chain p
+      → (after : Block) × Placed before code chain p after
+  pub block_one : (before : Block) (code : ℕ) (chain : Chain) (p : Placement) (a b : Block)
+      → Admissible before chain p
+      → Placed before code chain p a
+      → Placed before code chain p b
+      → a ≡ b
   -- there is a placement exactly where the block has no fewer adders than the chain
   pub some : (before : Block) (chain : Chain) → length (chain_adders chain) ≤ before.adders → (p : Placement) × Admissible before chain p
   pub enough : (before : Block) (chain : Chain) (p : Placement) → Admissible before chain p → length (chain_adders chain) ≤ before.adders

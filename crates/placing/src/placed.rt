@@ -98,7 +98,8 @@ impl Placement<'_> {
 // The row of the chain with its adders at these places, some with their operands swapped; or the first rule of a row that this breaks, as no admissible placement does.
 pub fn placed_row(chain: &Chain, places: &[u8], swaps: &[bool]) -> Result<Row, Refusal>
     ensures answer { RowJudged (placed_slots (at_places places.now swaps.now) (chain_adders chain.now)) (placed_output (at_places places.now swaps.now) chain.now) result }
-    ensures placed { (before : Block) → Admissible before chain.now (at_places places.now swaps.now) → IsPlaced chain.now (at_places places.now swaps.now) result }
+    ensures placed { let p = at_places places.now swaps.now in
+        (before : Block) → Admissible before chain.now p → IsPlaced chain.now p result }
 {
     let placement = Placement { places, swaps };
     Row::new(placement.slots(chain.adders()), placement.output(chain))

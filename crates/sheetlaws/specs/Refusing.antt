@@ -30,8 +30,17 @@ pub data NumberFault (key : List ℕ) (low high n : ℕ) (text : List ℕ) : Ref
 -- The line of a port: the text does not begin with one, or an input or their count is past its limits, or an input comes twice.
 pub data PortFault (a n : ℕ) (p : Port) (text : List ℕ) : Refusal → Type 0 where
   form : ((os : List Operand) (rest : List ℕ) → AllSmall os → text ≢ port_line p os ++ rest) → PortFault a n p text (SheetForm n)
-  limit : (os : List Operand) (rest : List ℕ) → AllSmall os → text ≡ port_line p os ++ rest → (InLimits a p os → ⊥) → PortFault a n p text (SheetLimit n)
-  repeat : (os : List Operand) (rest : List ℕ) (i j : ℕ) → AllSmall os → text ≡ port_line p os ++ rest → InLimits a p os → FirstRepeat os i j → PortFault a n p text (InputRepeated n)
+  limit : (os : List Operand) (rest : List ℕ)
+      → AllSmall os
+      → text ≡ port_line p os ++ rest
+      → (InLimits a p os → ⊥)
+      → PortFault a n p text (SheetLimit n)
+  repeat : (os : List Operand) (rest : List ℕ) (i j : ℕ)
+      → AllSmall os
+      → text ≡ port_line p os ++ rest
+      → InLimits a p os
+      → FirstRepeat os i j
+      → PortFault a n p text (InputRepeated n)
 
 -- no cause is met at it
 pub record PortFine (a : ℕ) (p : Port) (os : List Operand) : Type 0 where
