@@ -16,13 +16,13 @@ use Rattle.blocks.specs.Blocks.{row_of, constant_at}
 use Rattle.search.specs.Choosing.{Lower}
 use Rattle.placing.specs.Placements.{Placement, Admissible, Placed}
 
--- unswapped at the first difference, read from chain adder 1
+-- of two lists of swaps the first comes earlier: at the first adder where they differ, it leaves the operands as they are
 abbrev pub Unswapped : List Bool → List Bool → Type 0
 Unswapped [] ss = ⊥
 Unswapped (r ∷ rs) [] = ⊥
 Unswapped (r ∷ rs) (s ∷ ss) = ((r ≡ false) × (s ≡ true)) ⊎ ((r ≡ s) × Unswapped rs ss)
 
--- q comes before p: its list of places is the lower one, or they are the same and it is unswapped at the first difference
+-- q comes before p: its list of places is the lower one, or the places are the same and its swaps come earlier
 abbrev pub Before : Placement → Placement → Type 0
 Before q p = Lower q.places p.places ⊎ ((q.places ≡ p.places) × Unswapped q.swaps p.swaps)
 
@@ -55,10 +55,10 @@ fusing_rules count constants chain code =
     ∷ rule (nat_le (length (chain_adders chain)) count) BlockTooSmall
     ∷ []
 
--- there is an idle code of this number, and the block has no fewer adders than the chain
-pub record Fusable (before : Block) (number : ℕ) (chain : Chain) : Type 0 where
-  pub code : number ≤ 15
-  pub idle : row_of before number ≡ None
+-- the code is one of sixteen and idle, and the block has no fewer adders than the chain
+pub record Fusable (before : Block) (code : ℕ) (chain : Chain) : Type 0 where
+  pub one_of_sixteen : code ≤ 15
+  pub idle : row_of before code ≡ None
   pub enough : length (chain_adders chain) ≤ before.adders
 
 -- What the rules say of one fusing, its answer and the block after it.

@@ -1,7 +1,8 @@
 -- When an adder is swapped.
---   cost   what a block costs
---   d      an adder of the chain, counted from 0
---   p      a placement
+--   cost    what a block costs, and t the two tables of a price list
+--   d       an adder of the chain, counted from 0
+--   p       a placement of the chain in the block before, which leaves the block after
+--   other   the block that is left with adder d as it is, by as_is
 use Rattle.std.specs.Prelude.{◌≡◌, ℕ, zero, suc, ◌<◌, Bool, true, false, List, [], ◌∷◌, None}
 use Rattle.chains.specs.declared.model.Chain.{Chain}
 use Rattle.blocks.specs.declared.model.Block.{Block}
@@ -13,6 +14,7 @@ use Rattle.pricing.specs.Prices.{block_price}
 use Rattle.placing.specs.Placements.{Placement, place, swap, Placed}
 use Rattle.fusing.specs.Fusing.{Chosen}
 
+-- the swaps, with that of adder d taken back
 abbrev pub kept_at : ℕ → List Bool → List Bool
 kept_at d [] = []
 kept_at zero (s ∷ ss) = false ∷ ss

@@ -16,7 +16,7 @@ number n = decimal n
 abbrev pub number_line : List ℕ → ℕ → List ℕ
 number_line key n = key ++ (number n ++ 10 ∷ [])
 
--- an operand is source, dot, shift
+-- the two numbers of an operand, with a dot between them
 abbrev pub operand : Operand → List ℕ
 operand o = number o.source ++ 46 ∷ number o.shift
 
@@ -52,7 +52,7 @@ abbrev pub entries : List (Option Selection) → List ℕ
 entries [] = []
 entries (x ∷ xs) = entry x ++ entries xs
 
--- a code is two digits, with a leading zero below 10
+-- the digits of a code, with a leading zero below 10
 abbrev pub code_digits : ℕ → List ℕ
 code_digits c = if nat_lt c 10 then 48 ∷ number c else number c
 
