@@ -7,3 +7,4 @@ pub mod Determined
 pub mod Books
 mod Swaps
 mod InPlace
+mod Causes

@@ -84,5 +84,12 @@ SwapsOf t task ps ss = (d : ℕ) → d < length ps → slice_index_or ss d false
 
 -- the row that is chosen for the chain, at whatever idle code it is put; there is one where the block has adders enough
 abbrev pub ChosenRow : Tables → Block → Chain → Result Row Refusal → Type 0
-ChosenRow t b chain (Ok row) = (uses_none_past b.adders row ≡ true) × (p : Placement) × ((code : ℕ) (after : Block) → code ≤ 15 → row_of b code ≡ None → Rewritten b code (Some row) after → Chosen (block_price t) b code chain p after)
+ChosenRow t b chain (Ok row) =
+    (uses_none_past b.adders row ≡ true)
+    × (p : Placement)
+    × ((code : ℕ) (after : Block)
+    → code ≤ 15
+    → row_of b code ≡ None
+    → Rewritten b code (Some row) after
+    → Chosen (block_price t) b code chain p after)
 ChosenRow t b chain (Err e) = b.adders < length (chain_adders chain)

@@ -1,4 +1,5 @@
 // What holds of every fusing.
+ghost use Rattle.fusing.specs.Causes.{CausesInOrder};
 ghost use Rattle.fusing.specs.Fusing.{FusingIsDetermined};
 ghost use Rattle.fusing.specs.Swaps.{InPlaceStays, SwapsPay};
 
@@ -15,4 +16,9 @@ pub fn swaps_have_to_pay()
 // An adder is not swapped where both of its operands add nothing at their ports as it is.
 pub fn operands_in_place_are_not_swapped()
     ensures { InPlaceStays }
+{}
+
+// A fusing is turned down for a cause that is met, while none before it is: the code, then that it is live, then too few adders.
+pub fn causes_are_told_in_order()
+    ensures { CausesInOrder }
 {}

@@ -27,7 +27,8 @@ pub data LineConstant (line : List ℕ) : Result ℕ Refusal → Type 0 where
   of_chain : {c : Chain} → Reading line (Ok c) → LineConstant line (Ok (chain_constant c))
   turned_down : {e : Refusal} → Reading line (Err e) → LineConstant line (Err e)
 
--- What stands against the sheet comes first: why the bytes are no sheet; or why the code has no constant in the block that they are a sheet of, a code above 15 before an idle one; or the constant.
+-- What stands against the sheet comes first: why the bytes are no sheet; or why the code has no constant in the block
+-- that they are a sheet of, a code above 15 before an idle one; or the constant.
 pub data SheetConstant (sheet : List ℕ) (code : ℕ) : Result ℕ Refusal → Type 0 where
   no_sheet : {e : Refusal} → Refused sheet e → SheetConstant sheet code (Err e)
   no_constant : {b : Block} {e : Refusal} → IsSheet sheet b → first_broken (live_rules code (constant_at b code)) ≡ Some e → SheetConstant sheet code (Err e)

@@ -124,7 +124,8 @@ pub record TwoRows (first second : Chain) (p : Placement) (w : ℕ) (b : Block) 
   pub others : (code : ℕ) → code ≢ 0 → code ≢ 1 → row_of b code ≡ None
 
 -- The lines are read as chains, and some block is built of them.
--- In every such block the second stands at its placement, so that the block has their two rows, and all this holds of every block that has them.
+-- In every such block the second stands at its placement, so that the block has their two rows,
+-- and all this holds of every block that has them.
 pub record AllHold (lines : TwoLines) (facts : List Fact) : Type 0 where
   pub first : Chain
   pub reads_first : Reading lines.first (Ok first)
