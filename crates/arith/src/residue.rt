@@ -19,6 +19,7 @@ pub trait Modulus {
     ghost bounds: { Modular MODULUS };
 }
 
+#[derive(Clone, Copy, Default, PartialEq, Eq, Debug)]
 pub struct Mod255;
 
 impl Modulus for Mod255 {
@@ -29,6 +30,7 @@ impl Modulus for Mod255 {
     ghost bounds = { record { least = lit≤ tt; most = lit≤ tt } };
 }
 
+#[derive(Clone, Copy, Default, PartialEq, Eq, Debug)]
 pub struct Mod257;
 
 impl Modulus for Mod257 {
