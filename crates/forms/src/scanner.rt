@@ -1,5 +1,5 @@
 // Reads bytes of a form, one at a time.
-ghost use Rattle.std.specs.Prelude.{ℕ, List, [], ◌∷◌, ◌++◌, MatchOption, MatchResult};
+ghost use Rattle.std.specs.Prelude.{◌≡◌, ℕ, List, [], ◌∷◌, ◌++◌, None, MatchOption, MatchResult};
 ghost use Rattle.forms.specs.Breaking.{Viable, BrokenAt};
 
 use crate::error::FormError;
@@ -24,6 +24,17 @@ pub trait Scanner: Copy {
     fn step(self, byte: u8) -> Option<Self>
         ensures { (bs : List ℕ) → Reached bs self → MatchOption result (¬ Viable Form (bs ++ byte ∷ [])) (Reached (bs ++ byte ∷ [])) };
 
+    // The same in place; where nothing goes on so, it stays as it was. A scanner that holds more than a step changes writes its own.
+    fn advance(&mut self, byte: u8) -> Option<()>
+        ensures step { (bs : List ℕ)
+            → Reached bs self.old
+            → MatchOption result (¬ Viable Form (bs ++ byte ∷ [])) (λ _. Reached (bs ++ byte ∷ []) self.new) }
+        ensures kept { result ≡ None → self.new ≡ self.old }
+    {
+        *self = self.step(byte)?;
+        Some(())
+    }
+
     // What the bytes say that led here, `None` where they are too few.
     fn end(self) -> Option<Self::Said>
         ensures { (bs : List ℕ) → Reached bs self → MatchOption result (¬ Form bs) (Says bs) };
@@ -41,7 +52,7 @@ pub fn read<S: Scanner>(bytes: &[u8]) -> Result<S::Said, FormError>
 {
     let mut scanner = S::start();
     for (place, byte) in bytes.iter().enumerate() {
-        scanner = scanner.step(*byte).ok_or(FormError { place })?;
+        scanner.advance(*byte).ok_or(FormError { place })?;
     }
     scanner.end().ok_or(FormError { place: bytes.len() })
 }

@@ -84,6 +84,12 @@ abbrev pub step : Part → ℕ → Option Move
 step (Key k) b = on_key k b
 step (Body f m) b = on_byte f m (symbol b)
 
+-- the same in place: what is whole now, and the part behind it
+abbrev pub made : Option (Option Adder) → Part → Option Move
+made None p = None
+made (Some None) p = Some (On p)
+made (Some (Some a)) p = Some (Done a)
+
 -- the output shift, where the line may end here
 abbrev pub at_end : Front → Option ℕ → Option ℕ
 at_end Nothing v = v

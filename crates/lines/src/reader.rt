@@ -4,7 +4,7 @@ ghost use Rattle.lines.specs.Drafts.{Says};
 ghost use Rattle.lines.specs.Reading.{Reached};
 
 use crate::draft::Draft;
-use crate::scan::{Front, Move, Number, Part};
+use crate::scan::{Front, Number, Part};
 use adders::AdderList;
 use forms::Scanner;
 
@@ -32,20 +32,20 @@ impl Scanner for Reader {
         }
     }
 
+    fn step(mut self, byte: u8) -> Option<Reader> {
+        self.advance(byte)?;
+        Some(self)
+    }
+
+    // A step changes the adders only where one is whole, so they stay where they are.
     #[tactic(auto, using(crate::proofs::Steps::step_on))]
-    fn step(self, byte: u8) -> Option<Reader> {
-        match self.part.step(byte)? {
-            Move::On(part) => Some(Reader { part, ..self }),
-            Move::Done(adder) => {
-                let mut adders = self.adders;
-                // a draft keeps nine: those past them are let go
-                let _ = adders.push_within_capacity(adder);
-                Some(Reader {
-                    adders,
-                    part: Part::Body(Front::Nothing, Number::Empty),
-                })
-            }
+    fn advance(&mut self, byte: u8) -> Option<()> {
+        if let Some(adder) = self.part.advance(byte)? {
+            // a draft keeps nine: those past them are let go
+            let _ = self.adders.push_within_capacity(adder);
+            self.part = Part::Body(Front::Nothing, Number::Empty);
         }
+        Some(())
     }
 
     fn end(self) -> Option<Draft> {

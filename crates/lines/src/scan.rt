@@ -1,6 +1,8 @@
 // The automaton that reads a line, one byte at a time: where it stands, and what a byte leads to.
-ghost use Rattle.std.specs.Prelude.{◌≡◌};
-ghost use Rattle.lines.specs.Scan.{symbol, push, value, closed, final, step, on_symbol, on_key};
+ghost use Rattle.std.specs.Prelude.{◌≡◌, None};
+ghost use Rattle.std.specs.Option.{option_map};
+ghost use Rattle.lines.specs.declared.scan.Move.TheVariants.{On};
+ghost use Rattle.lines.specs.Scan.{symbol, push, value, closed, final, step, made, on_key};
 
 use adders::{Adder, Operand, Sign};
 use forms::Digit;
@@ -34,7 +36,7 @@ pub(crate) enum Front {
 // Where in the line the reader stands: after so many bytes of the key, or in a number.
 #[derive(Clone, Copy)]
 pub(crate) enum Part {
-    Key(usize),
+    Key(u8),
     Body(Front, Number),
 }
 
@@ -117,37 +119,44 @@ impl Part {
         }
     }
 
-    // What follows where the reader stands here and finds `byte`, `None` where no line goes on so.
-    pub(crate) fn step(self, byte: u8) -> Option<Move>
-        ensures { result ≡ step self byte }
+    // One byte more, in place: the adder that it makes whole, if it makes one; `None` where no line goes on so.
+    pub(crate) fn advance(&mut self, byte: u8) -> Option<Option<Adder>>
+        ensures step { made result self.new ≡ step self.old byte }
+        ensures kept { result ≡ None → self.new ≡ self.old }
     {
         match self {
-            Part::Key(k) => after_key(k, byte),
-            Part::Body(front, number) => after_number(front, number, Symbol::of(byte)?),
+            Part::Key(k) => {
+                *self = after_key(*k, byte)?;
+                Some(None)
+            }
+            Part::Body(front, number) => match Symbol::of(byte)? {
+                Symbol::Digit(digit) => {
+                    *number = number.push(digit)?;
+                    Some(None)
+                }
+                symbol => match front.close(number.value()?, symbol)? {
+                    Move::On(part) => {
+                        *self = part;
+                        Some(None)
+                    }
+                    Move::Done(adder) => Some(Some(adder)),
+                },
+            },
         }
     }
 }
 
-fn after_key(k: usize, byte: u8) -> Option<Move>
-    ensures { result ≡ on_key k byte }
+// What follows behind a byte of the key.
+fn after_key(k: u8, byte: u8) -> Option<Part>
+    ensures { option_map (λ part. On part) result ≡ on_key k byte }
 {
-    if byte != *KEY.get(k)? {
+    if byte != *KEY.get(usize::from(k))? {
         return None;
     }
     let read = k + 1;
-    Some(Move::On(if read == KEY.len() {
+    Some(if usize::from(read) == KEY.len() {
         Part::Body(Front::Nothing, Number::Empty)
     } else {
         Part::Key(read)
-    }))
-}
-
-fn after_number(front: Front, number: Number, symbol: Symbol) -> Option<Move>
-    ensures { result ≡ on_symbol front number symbol }
-{
-    if let Symbol::Digit(digit) = symbol {
-        let number = number.push(digit)?;
-        return Some(Move::On(Part::Body(front, number)));
-    }
-    front.close(number.value()?, symbol)
+    })
 }

@@ -1,16 +1,8 @@
-use Rattle.std.proofs.Common.{◌≡◌, Some, None, rules}
-use Rattle.lines.specs.declared.scan.Move.TheVariants.{Done}
-use Rattle.lines.specs.Scan.{step}
-use Rattle.lines.proofs.Steps.{step_off, step_done}
+use Rattle.std.proofs.Common.{◌≡◌, None, rules}
+use Rattle.std.proofs.lemmas.Option.{MatchOption-at_none}
 use Rattle.lines.proofs.reader.ReaderScanner.step.Goals as goal
 
-pub returns-in_err-part : goal.returns-in_err-part
-returns-in_err-part c bs reached =
-    let none : step c.args.self.part c.args.byte ≡ None = search rules in
-    rw c.from_residual.ensures (step_off bs c.args.byte c.args.self reached none)
-
-pub returns-in-Done : goal.returns-in-Done
-returns-in-Done c bs reached =
-    let done : step c.args.self.part c.args.byte ≡ Some (Done c.in-Done.adder) = search rules in
-    let push = c.push_within_capacity.ensures in
-    step_done bs c.args.byte c.args.self c.push_within_capacity.new.self c.in-Done.adder reached done (λ h. (push.room h).1) (λ h. (push.full h).1)
+pub returns-in_err-advance : goal.returns-in_err-advance
+returns-in_err-advance c bs reached =
+    let none : c.advance.result ≡ None = search rules in
+    rw c.from_residual.ensures (MatchOption-at_none _ _ none (c.advance.ensures.step bs reached))
