@@ -73,11 +73,11 @@ impl<const N: usize> AdderList<N> {
         ensures few { length self.now ≤ N }
     {
         let adders = self.as_slice();
-        std::array::from_fn(
-            |i| -> Option<Adder>
-                ensures { result ≡ slice_get adders.entry.now i }
-            { adders.get(i).copied() },
-        )
+        let mut slots = [None; N];
+        for (i, adder) in adders.iter().enumerate() {
+            slots[i] = Some(*adder);
+        }
+        slots
     }
 }
 

@@ -115,7 +115,10 @@ impl Adder {
 fn slot_value(slot: Option<Adder>, values: &[u32]) -> Result<u32, Refusal>
     ensures { Tried (slot_rules values.now slot) (slot_value values.now slot) result }
 {
-    slot.map_or(Ok(0), |adder| adder.value(values))
+    let Some(adder) = slot else {
+        return Ok(0);
+    };
+    adder.value(values)
 }
 
 // The values of the sample and of eight adders, of which some may be absent, or the first rule that an adder breaks.

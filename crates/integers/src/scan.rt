@@ -31,11 +31,17 @@ impl Part {
     }
 }
 
+// The most that a number is, on either side of 0, if a word holds ten times as much.
+const MOST_TENS: i64 = i64::MAX / 10;
+
 // A number with one digit more on its own side of 0, if a word holds it.
 fn longer(number: i64, digit: Digit) -> Option<i64>
     ensures { SomeIff result (InWord (longer number digit)) (longer number digit) }
 {
-    let tens = number.checked_mul(10)?;
+    if !(-MOST_TENS..=MOST_TENS).contains(&number) {
+        return None;
+    }
+    let tens = 10 * number;
     let units = i64::from(digit.value());
     if number < 0 {
         tens.checked_sub(units)

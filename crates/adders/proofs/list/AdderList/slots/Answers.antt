@@ -1,15 +1,22 @@
-use Rattle.std.proofs.Common.{◌≡◌, ◌-◌, ◌++◌, length, map, replicate, Some, None, List, sym, ◌∙◌, arith, refl, ap, Bor}
-use Rattle.adders.specs.declared.wiring.Adder.{Adder}
-use Rattle.std.specs.Prelude.{slice_get}
-use Rattle.std.proofs.lemmas.List.{same_lists}
-use Rattle.adders.proofs.Places.{places, padded_at, length_padded}
+use Rattle.std.proofs.Common.{◌-◌, ◌++◌, length, map, replicate, Some, None, ◌∙◌, ap, arith}
+use Rattle.std.proofs.lemmas.List.{length-set}
+use Rattle.adders.specs.Values.{spare_adder}
+use Rattle.adders.proofs.Places.{filled_more, spare_less, filled_all}
 use Rattle.adders.proofs.list.AdderList.slots.Goals as goal
+
+pub loop-i-preserved : goal.loop-i-preserved
+loop-i-preserved g c =
+    let inv = c.loop-i.invariant in
+    let few = c.as_slice-adders.ensures.few in
+    let same = ap length c.as_slice-adders.ensures.items in (
+      length-set c.loop-i.slots c.loop-i.i _ ∙ inv.0,
+      filled_more Some c.as_slice-adders.result.now c.loop-i.slots c.loop-i.i spare_adder (omega (arith, few, same, inv.0, c.loop-i-test.true)) c.loop-i-test.true inv.1,
+      spare_less c.loop-i.slots c.loop-i.i g.row.N _ None inv.2,
+    )
 
 pub returns-clause-slots : goal.returns-clause-slots
 returns-clause-slots g c =
-    let made = c.from_fn.ensures.items in
-    let xs = c.args.self.now in
-    let few = c.as_slice-adders.ensures.few in
-    let long : length (map Some xs ++ replicate (g.row.N - length xs) None) ≡ g.row.N = length_padded xs g.row.N few in
-    same_lists c.from_fn.result (map Some xs ++ replicate (g.row.N - length xs) None) (made.long ∙ sym long)
-    (λ k d h. places _ (λ s. s.0 ≡ c.as_slice-adders.result) (λ i y. y ≡ slice_get xs i) (λ s i y q inv called. (called.met.1 ∙ ap (λ (b : Bor (List Adder)). slice_get b.now i) inv ∙ ap (λ b. slice_get b i) c.as_slice-adders.ensures.items, called.met.0 ∙ inv)) _ c.from_fn.result 0 g.row.N k d refl made.each (omega arith) (omega (arith, made.long)) ∙ padded_at xs g.row.N k d (omega (arith, made.long)))
+    let inv = c.loop-i.invariant in
+    let end = c.loop-i.auto.i-end in
+    let all = filled_all Some None c.as_slice-adders.result.now c.loop-i.slots c.loop-i.i g.row.N (omega (arith, end, c.loop-i-test.false)) inv.1 inv.2 in
+    all ∙ ap (λ xs. map Some xs ++ replicate (g.row.N - length xs) None) c.as_slice-adders.ensures.items
